@@ -1,0 +1,90 @@
+-- What the program writes, and its status (this project's own rules).
+use Rattle.std.specs.Prelude.{◌≡◌, ℕ, ◌^◌, ◌<◌, ◌&&◌, List, [], ◌∷◌, ◌++◌, length, map, flat_map, take, nat_lt, if◌then◌else◌, Option, Some, None, option_map, bytes_eq, codes, decimal}
+use Rattle.std.specs.Str.Parse.{digits_value}
+use Rattle.std.specs.FinMap.{get}
+use Rattle.rk_bytes.specs.declared.model.GapWhy.{GapWhy}
+use Rattle.rk_bytes.specs.declared.model.GapWhy.TheVariants.{Checksum, Length, UnknownType, MissingStart, MissingEnd, Mixed}
+use Rattle.rk_bytes.specs.declared.model.EndKind.{EndKind}
+use Rattle.rk_bytes.specs.declared.model.EndKind.TheVariants.{Clean, Torn, Stale, Unsupported}
+use Rattle.rk_bytes.specs.declared.model.Status.{Status}
+use Rattle.rk_bytes.specs.declared.model.Status.TheVariants.{Done, Refused, Usage}
+use Rattle.rk_bytes.specs.Model.DiskImages.{Directory}
+use Rattle.rk_bytes.specs.Model.FileNames.{log_name}
+use Rattle.rk_bytes.specs.Model.LogItems.{Item, rec, gap, end, log_items}
+
+pub data Command : Type 0 where
+  dump_wal : ℕ → Command
+
+-- The words are a spelling of the command.
+abbrev pub Spells : List (List ℕ) → Command → Type 0
+Spells words (dump_wal n) = (n < 2 ^ 64) × (words ≡ codes "dump_wal" ∷ decimal n ∷ [])
+
+-- the number below 2 ^ 64 that the word is the decimal spelling of
+abbrev pub number_of : List ℕ → Option ℕ
+number_of word = let n = digits_value 10 word in if nat_lt n (2 ^ 64) && bytes_eq (decimal n) word then Some n else None
+
+-- the command that the words spell
+abbrev pub command_of : List (List ℕ) → Option Command
+command_of (verb ∷ number ∷ []) = if bytes_eq verb (codes "dump_wal") then option_map dump_wal (number_of number) else None
+command_of _ = None
+
+abbrev pub line : List ℕ → List ℕ
+line text = text ++ 10 ∷ []
+
+abbrev pub why_word : GapWhy → List ℕ
+why_word Checksum = codes "Checksum"
+why_word Length = codes "Length"
+why_word UnknownType = codes "UnknownType"
+why_word MissingStart = codes "MissingStart"
+why_word MissingEnd = codes "MissingEnd"
+why_word Mixed = codes "Mixed"
+
+abbrev pub kind_words : EndKind → List ℕ
+kind_words Clean = codes "Clean"
+kind_words Torn = codes "Torn"
+kind_words Stale = codes "Stale"
+kind_words (Unsupported kind) = codes "Unsupported " ++ decimal kind
+
+abbrev pub item_line : Item → List ℕ
+item_line (rec payload place) = line (codes "record " ++ decimal place ++ codes " " ++ decimal (length payload))
+item_line (gap why place) = line (codes "gap " ++ decimal place ++ codes " " ++ why_word why)
+item_line (end kind place) = line (codes "end " ++ decimal place ++ codes " " ++ kind_words kind)
+
+abbrev pub usage_line : List ℕ
+usage_line = line (codes "usage: scan get families manifest_dump dump_wal check repair sst drill")
+
+abbrev pub no_log_line : ℕ → List ℕ
+no_log_line n = line (codes "refused: NoLog " ++ decimal n)
+
+abbrev pub disk_fault_line : List ℕ
+disk_fault_line = line (codes "fault: disk")
+
+abbrev pub memory_fault_line : List ℕ
+memory_fault_line = line (codes "fault: memory")
+
+-- lines, each with its newline, and the status
+pub record Output : Type 0 where
+  pub lines : List (List ℕ)
+  pub status : Status
+
+abbrev pub joined : List (List ℕ) → List ℕ
+joined lines = flat_map (λ bytes. bytes) lines
+
+abbrev pub text : Output → List ℕ
+text out = joined out.lines
+
+abbrev pub dump_wal_output : ℕ → Option (List ℕ) → Output
+dump_wal_output n None = record { lines = no_log_line n ∷ []; status = Refused }
+dump_wal_output n (Some bytes) = record { lines = map item_line (log_items n bytes); status = Done }
+
+abbrev pub command_output : Option Command → Directory → Output
+command_output None d = record { lines = usage_line ∷ []; status = Usage }
+command_output (Some (dump_wal n)) d = dump_wal_output n (get d (log_name n))
+
+-- what the program writes for these words over the directory
+abbrev pub output : List (List ℕ) → Directory → Output
+output words d = command_output (command_of words) d
+
+-- What was taken is whole lines of the text, and then the last bytes.
+abbrev pub TakesLines : List (List ℕ) → List ℕ → List ℕ → List ℕ → Type 0
+TakesLines lines before after last_bytes = (n : ℕ) × (after ≡ before ++ (joined (take n lines) ++ last_bytes))

@@ -1,0 +1,8 @@
+//! The disk and the output as the layers above see them, and forms of both in memory.
+#![tactic(auto)]
+
+mod disk;
+mod sink;
+
+pub use disk::{Disk, DiskErr};
+pub use sink::{Sink, SinkErr};

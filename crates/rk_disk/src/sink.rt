@@ -1,0 +1,44 @@
+ghost use Rattle.std.specs.Prelude.{◌≡◌, ℕ, ◌++◌, List, take, Option, OnOk, IsErrOf, option_map};
+ghost use Rattle.rk_bytes.specs.Model.DiskImages.{Counts};
+ghost use Rattle.rk_disk.specs.Faults.{sink_failed};
+
+use std::error::Error;
+use std::fmt;
+
+/// Why an output didn't take all bytes.
+#[derive(Clone, Copy, Debug, PartialEq, Eq)]
+pub enum SinkErr {
+    /// The output failed, and counted it. It may have taken a front of the bytes.
+    Failed,
+    /// Memory ran out. It took none of the bytes.
+    Memory,
+}
+
+impl fmt::Display for SinkErr {
+    fn fmt<W: fmt::Write>(&self, f: &mut fmt::Formatter<W>) -> fmt::Result {
+        match self {
+            SinkErr::Failed => write!(f, "the output failed"),
+            SinkErr::Memory => write!(f, "out of memory"),
+        }
+    }
+}
+
+impl Error for SinkErr {}
+
+/// An output, which takes bytes one piece after another.
+///
+/// An output may tell what it took. Whether it does never changes.
+pub trait Sink {
+    /// The bytes taken so far, where the output tells them.
+    ghost taken: { Self → Option (List ℕ) };
+
+    /// How many writes have failed. It stands still at the last value of a `u64`.
+    ghost faults: { Self → ℕ };
+
+    /// Takes all the bytes, or says why not.
+    fn write(&mut self, bytes: &[u8]) -> Result<(), SinkErr>
+        ensures ok { OnOk result (taken self.new ≡ option_map (λ front. front ++ bytes.now) (taken self.old)) }
+        ensures failed { IsErrOf result SinkErr.Failed → (n : ℕ) × (taken self.new ≡ option_map (λ front. front ++ take n bytes.now) (taken self.old)) }
+        ensures memory { IsErrOf result SinkErr.Memory → taken self.new ≡ taken self.old }
+        ensures faults { Counts (sink_failed result) (faults self.old) (faults self.new) };
+}
