@@ -1,5 +1,21 @@
 //! The definitions of RocksDB's formats. They stand in `specs/Model`, over plain lists and numbers;
 //! here are the enums that they share with the code, and the laws that hold of them.
+ghost use Rattle.std.specs.Prelude.{◌≡◌, ◌↔◌, ℕ, List, Some, None};
+ghost use Rattle.rk_bytes.specs.Model.LogMarks.{Mark, log_marks};
+ghost use Rattle.rk_bytes.specs.Model.LogItems.{Item, Parts, EndsOnce, parting};
+ghost use Rattle.rk_bytes.specs.Model.Output.{Command, Spells, command_of};
+
+/// Law: the marks of a log are parted into items in one way, the one that `parting` gives.
+pub fn one_parting()
+    ensures marks { (number : ℕ) (bytes : List ℕ) → EndsOnce (log_marks number bytes) }
+    ensures exists { (marks : List Mark) → EndsOnce marks → Parts marks (parting None marks) }
+    ensures unique { (marks : List Mark) (items others : List Item) → Parts marks items → Parts marks others → others ≡ items }
+{}
+
+/// Law: the command of a list of words is the one that they spell, and there is at most one.
+pub fn one_command()
+    ensures { (words : List (List ℕ)) (command : Command) → (command_of words ≡ Some command) ↔ Spells words command }
+{}
 
 /// Why a number or a part doesn't read.
 #[derive(Clone, Copy, Debug, PartialEq, Eq)]

@@ -1,0 +1,2 @@
+pub mod PartingLemmas
+pub mod CommandLemmas
