@@ -88,18 +88,19 @@ block_marks is_full place zero (b ∷ bytes) = elim (found is_full place (b ∷ 
   | fragment mark len ↦ mark ∷ block_marks is_full (suc place) (len - 1) bytes
 ]
 
-abbrev pub block_len : ℕ
+unfoldable pub block_len : ℕ
 block_len = 32768
 
 -- the marks of n blocks, the first of which begins at the place
 unfoldable pub blocks_marks : ℕ → ℕ → List ℕ → List Mark
 blocks_marks zero place bytes = []
 blocks_marks (suc n) place bytes =
-    block_marks (nat_le block_len (length bytes)) place 0 (take block_len bytes) ++ blocks_marks n (place + block_len) (drop block_len bytes)
+    let block = take block_len bytes in
+    block_marks (length block == block_len) place 0 block ++ blocks_marks n (place + block_len) (drop block_len bytes)
 
 -- how many blocks the bytes fill, the last one perhaps in part
 abbrev pub block_count : List ℕ → ℕ
-block_count bytes = (length bytes + 32767) / block_len
+block_count bytes = (length bytes + (block_len - 1)) / block_len
 
 -- the marks up to the first end, or up to the file's end
 abbrev pub up_to_end : ℕ → List Mark → List Mark
@@ -111,17 +112,17 @@ unfoldable pub log_marks : ℕ → List ℕ → List Mark
 log_marks number bytes = up_to_end (length bytes) (blocks_marks (block_count bytes) 0 bytes)
 
 of_nothing : log_marks 3 [] ≡ file_end 0 ∷ []
-unfolding log_marks blocks_marks
+unfolding log_marks blocks_marks block_len
 of_nothing = refl
 
 of_a_recyclable_header : log_marks 3 (replicate 6 0 ++ 5 ∷ []) ≡ unsupported 5 0 ∷ []
-unfolding log_marks blocks_marks block_marks found
+unfolding log_marks blocks_marks block_marks found block_len
 of_a_recyclable_header = refl
 
 of_a_short_end : log_marks 3 (replicate 6 0) ≡ cut 0 ∷ []
-unfolding log_marks blocks_marks block_marks found
+unfolding log_marks blocks_marks block_marks found block_len
 of_a_short_end = refl
 
 of_a_zero_header : log_marks 3 (replicate 20 0) ≡ file_end 20 ∷ []
-unfolding log_marks blocks_marks block_marks found
+unfolding log_marks blocks_marks block_marks found block_len
 of_a_zero_header = refl

@@ -1,0 +1,4 @@
+mod Registers
+mod Tables
+mod BlockLemmas
+mod LeftLemmas

@@ -1,0 +1,12 @@
+//! The records of a write-ahead log or a manifest, read from the bytes of its file.
+#![tactic(auto)]
+
+mod fragment;
+mod item;
+mod reader;
+mod rest;
+pub mod sum;
+
+pub use item::{Item, Piece};
+pub use reader::LogReader;
+pub use rk_bytes::model::{EndKind, GapWhy};

@@ -1,0 +1,110 @@
+//! The checksum of log records: CRC32C, and what is stored in its place.
+ghost use Rattle.std.specs.Prelude.{◌≡◌, ◌+◌, ◌*◌, ◌<◌, ◌≤◌};
+ghost use Rattle.rk_bytes.specs.Model.Checksums.{crc_bits, crc_bytes, crc32c, mask};
+
+mod tables;
+
+use tables::TABLES;
+
+// What a rotated sum is raised by.
+const MASK_DELTA: u32 = 0xA282_EAD8;
+
+/// The CRC32C of the bytes (polynomial 0x1EDC6F41, reflected).
+#[tactic(auto, unfolding(rk_bytes::specs::Model::Checksums::crc32c))]
+pub fn crc32c(bytes: &[u8]) -> u32
+    ensures { result ≡ crc32c bytes.now }
+{
+    after_bytes(0xFFFF_FFFF, bytes) ^ 0xFFFF_FFFF
+}
+
+/// What is stored in place of a sum (`util/crc32c.h`), since the sum of bytes that contain sums
+/// themselves is a weak check.
+pub fn mask(sum: u32) -> u32
+    ensures { result ≡ mask sum }
+{
+    sum.rotate_right(15).wrapping_add(MASK_DELTA)
+}
+
+// The register after these bytes, taken eight at a time.
+fn after_bytes(mut register: u32, bytes: &[u8]) -> u32
+    ensures { result ≡ crc_bytes register bytes.now }
+{
+    let mut rest = bytes;
+    while let [b0, b1, b2, b3, b4, b5, b6, b7, after @ ..] = rest {
+        register = after_eight(register, [*b0, *b1, *b2, *b3, *b4, *b5, *b6, *b7]);
+        rest = after;
+    }
+    after_few(register, rest)
+}
+
+// The register after these bytes, taken one at a time.
+fn after_few(mut register: u32, bytes: &[u8]) -> u32
+    ensures { result ≡ crc_bytes register bytes.now }
+{
+    for byte in bytes {
+        let mixed = register ^ u32::from(*byte);
+        let [low, ..] = mixed.to_le_bytes();
+        register = after_byte(low, 0) ^ mixed >> 8;
+    }
+    register
+}
+
+// The register after these eight bytes. Their second half comes first, since it does not wait for
+// the register.
+#[inline(always)]
+fn after_eight(register: u32, bytes: [u8; 8]) -> u32
+    ensures { result ≡ crc_bytes register bytes }
+{
+    let [b0, b1, b2, b3, b4, b5, b6, b7] = bytes;
+    let first = u32::from_le_bytes([b0, b1, b2, b3]);
+    let second = u32::from_le_bytes([b4, b5, b6, b7]);
+    after_word(second, 0) ^ after_word(register ^ first, 4)
+}
+
+// What a register that holds this word is once the word and so many bytes of zeros have gone through
+// it.
+#[inline(always)]
+fn after_word(word: u32, zeros: usize) -> u32
+    requires { zeros ≤ 4 }
+    ensures { result ≡ crc_bits (8 * (zeros + 4)) word }
+{
+    let [b0, b1, b2, b3] = word.to_le_bytes();
+    after_byte(b0, zeros + 3)
+        ^ after_byte(b1, zeros + 2)
+        ^ after_byte(b2, zeros + 1)
+        ^ after_byte(b3, zeros)
+}
+
+// What a register that holds this byte is once the byte and so many bytes of zeros have gone through
+// it.
+#[inline(always)]
+fn after_byte(byte: u8, zeros: usize) -> u32
+    requires { zeros < 8 }
+    ensures { result ≡ crc_bits (8 * (zeros + 1)) byte }
+{
+    TABLES[zeros][byte as usize]
+}
+
+#[cfg(test)]
+mod tests {
+    use super::*;
+
+    #[test]
+    fn known_sums(rt: HostRuntime) {
+        let mut counting = [0u8; 255];
+        for i in 0..255u8 {
+            counting[i as usize] = i;
+        }
+        let cases: [(&[u8], u32); 5] = [
+            (b"", 0),
+            (b"123456789", 0xE306_9283),
+            (&[0; 32], 0x8A91_36AA),
+            (&[0xFF; 32], 0x62A8_AB43),
+            (&counting, 0x8953_C482),
+        ];
+        for (bytes, sum) in cases {
+            assert_eq!(rt; crc32c(bytes), sum, "of {bytes:?}");
+        }
+        assert_eq!(rt; mask(0xE306_9283), 0xC78A_B0E5);
+    }
+}
