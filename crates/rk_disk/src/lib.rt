@@ -2,7 +2,9 @@
 #![tactic(auto)]
 
 mod disk;
+mod read;
 mod sink;
 
 pub use disk::{Disk, DiskErr};
+pub use read::read_file;
 pub use sink::{Sink, SinkErr};
