@@ -2,9 +2,12 @@
 #![tactic(auto)]
 
 mod disk;
+mod mem_sink;
+mod plan;
 mod read;
 mod sink;
 
 pub use disk::{Disk, DiskErr};
+pub use mem_sink::MemSink;
 pub use read::read_file;
 pub use sink::{Sink, SinkErr};
