@@ -1,1 +1,4 @@
 pub mod Faults
+pub mod CallPlan
+pub mod InMemory
+pub mod Named

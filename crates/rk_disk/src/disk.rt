@@ -38,6 +38,16 @@ impl From<Memory> for DiskErr {
     }
 }
 
+impl From<AllocError> for DiskErr {
+    ghost use Rattle.rk_disk.specs.declared.disk.DiskErr.TheVariants as errors;
+
+    ghost from_gives = { λ _ e. e ≡ errors.Memory };
+
+    fn from(_: AllocError) -> DiskErr {
+        DiskErr::Memory
+    }
+}
+
 /// One directory, which each call names a file of.
 ///
 /// A disk may tell what it holds. Whether it does never changes.

@@ -2,7 +2,15 @@
 #![tactic(auto)]
 
 mod disk;
+mod files;
+mod mem_disk;
+mod mem_sink;
+mod plan;
+mod read;
 mod sink;
 
 pub use disk::{Disk, DiskErr};
+pub use mem_disk::MemDisk;
+pub use mem_sink::MemSink;
+pub use read::read_file;
 pub use sink::{Sink, SinkErr};

@@ -2,6 +2,7 @@ ghost use Rattle.std.specs.Prelude.{◌≡◌, ℕ, ◌++◌, List, take, Option
 ghost use Rattle.rk_bytes.specs.Model.DiskImages.{Counts};
 ghost use Rattle.rk_disk.specs.Faults.{sink_failed};
 
+use rk_bytes::Memory;
 use std::error::Error;
 use std::fmt;
 
@@ -24,6 +25,16 @@ impl fmt::Display for SinkErr {
 }
 
 impl Error for SinkErr {}
+
+impl From<Memory> for SinkErr {
+    ghost use Rattle.rk_disk.specs.declared.sink.SinkErr.TheVariants as errors;
+
+    ghost from_gives = { λ _ e. e ≡ errors.Memory };
+
+    fn from(_: Memory) -> SinkErr {
+        SinkErr::Memory
+    }
+}
 
 /// An output, which takes bytes one piece after another.
 ///
