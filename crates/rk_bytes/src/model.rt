@@ -1,5 +1,7 @@
 //! The definitions of RocksDB's formats. They stand in `specs/Model`, over plain lists and numbers;
 //! here are the enums that they share with the code, and the laws that hold of them.
+ghost use Rattle.std.specs.Prelude.{◌≡◌};
+ghost use Rattle.rk_bytes.specs.Model.Output.{exit_status};
 
 /// Why a number or a part doesn't read.
 #[derive(Clone, Copy, Debug, PartialEq, Eq)]
@@ -55,4 +57,13 @@ pub enum Status {
     SinkFault,
     /// Memory ran out.
     Memory,
+}
+
+impl Status {
+    /// The exit status of a program that ends so.
+    pub fn exit_status(self) -> u8
+        ensures { result ≡ exit_status self }
+    {
+        self as u8
+    }
 }
