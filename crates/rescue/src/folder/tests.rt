@@ -1,3 +1,5 @@
+ghost use Rattle.std.specs.Prelude.{◌≤◌, IfOk, length};
+
 use super::*;
 use std::rt::Env;
 use std::test::Fail;
