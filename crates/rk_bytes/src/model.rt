@@ -3,7 +3,7 @@
 ghost use Rattle.std.specs.Prelude.{◌≡◌, ◌↔◌, ℕ, List, Some, None};
 ghost use Rattle.rk_bytes.specs.Model.LogMarks.{Mark, log_marks};
 ghost use Rattle.rk_bytes.specs.Model.LogItems.{Item, Parts, EndsOnce, parting};
-ghost use Rattle.rk_bytes.specs.Model.Output.{Command, Spells, command_of};
+ghost use Rattle.rk_bytes.specs.Model.Output.{Command, Spells, command_of, exit_status};
 
 /// Law: the marks of a log are parted into items in one way, the one that `parting` gives.
 pub fn one_parting()
@@ -71,4 +71,13 @@ pub enum Status {
     SinkFault,
     /// Memory ran out.
     Memory,
+}
+
+impl Status {
+    /// The exit status of a program that ends so.
+    pub fn exit_status(self) -> u8
+        ensures { result ≡ exit_status self }
+    {
+        self as u8
+    }
 }

@@ -7,7 +7,7 @@ use Rattle.rk_bytes.specs.declared.model.GapWhy.TheVariants.{Checksum, Length, U
 use Rattle.rk_bytes.specs.declared.model.EndKind.{EndKind}
 use Rattle.rk_bytes.specs.declared.model.EndKind.TheVariants.{Clean, Torn, Stale, Unsupported}
 use Rattle.rk_bytes.specs.declared.model.Status.{Status}
-use Rattle.rk_bytes.specs.declared.model.Status.TheVariants.{Done, Refused, Usage}
+use Rattle.rk_bytes.specs.declared.model.Status.TheVariants.{Done, Refused, Usage, DiskFault, SinkFault, Memory}
 use Rattle.rk_bytes.specs.Model.DiskImages.{Directory}
 use Rattle.rk_bytes.specs.Model.FileNames.{log_name}
 use Rattle.rk_bytes.specs.Model.LogItems.{Item, rec, gap, end, log_items}
@@ -72,6 +72,15 @@ joined lines = flat_map (λ bytes. bytes) lines
 
 abbrev pub text : Output → List ℕ
 text out = joined out.lines
+
+-- the exit status of a program that ends so
+abbrev pub exit_status : Status → ℕ
+exit_status Done = 0
+exit_status Refused = 1
+exit_status Usage = 2
+exit_status DiskFault = 3
+exit_status SinkFault = 4
+exit_status Memory = 5
 
 abbrev pub dump_wal_output : ℕ → Option (List ℕ) → Output
 dump_wal_output n None = record { lines = no_log_line n ∷ []; status = Refused }

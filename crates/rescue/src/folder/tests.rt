@@ -1,0 +1,132 @@
+ghost use Rattle.std.specs.Prelude.{◌≤◌, IfOk, length};
+
+use super::*;
+use std::rt::Env;
+use std::test::Fail;
+use std::{env, process};
+
+// What a reader holds, and the errors that its second and third calls give.
+#[derive(Drop)]
+struct Halting {
+    calls: usize,
+    third: ErrorKind,
+}
+
+impl Read for Halting {
+    fn read(&mut self, buf: &mut [u8]) -> io::Result<usize> {
+        self.calls = self.calls.wrapping_add(1);
+        match self.calls {
+            2 => Err(io::Error::from(ErrorKind::Interrupted)),
+            3 => Err(io::Error::from(self.third)),
+            _ => match buf.first_mut() {
+                Some(byte) => {
+                    *byte = b'x';
+                    Ok(1)
+                }
+                None => Ok(0),
+            },
+        }
+    }
+}
+
+#[test]
+fn fill_goes_on_after_an_interruption_alone(rt: HostRuntime) -> Result<(), Fail> {
+    let mut buf = [0; 3];
+    let mut goes_on = Halting {
+        calls: 0,
+        third: ErrorKind::Interrupted,
+    };
+    assert_eq!(rt; fill(&mut goes_on, &mut buf)?, 3);
+    assert_eq!(rt; goes_on.calls, 5);
+    assert_eq!(rt; buf, *b"xxx");
+    let mut fails = Halting {
+        calls: 0,
+        third: ErrorKind::Other,
+    };
+    assert_eq!(rt; fill(&mut fails, &mut buf).is_err(), true);
+    assert_eq!(rt; fails.calls, 3);
+    Ok(())
+}
+
+// The size of a file, and its bytes from a place on, as far as the buffer goes.
+fn look<D: Disk>(
+    disk: &mut D,
+    name: &str,
+    at: u64,
+    buf: &mut [u8],
+) -> Result<(Option<u64>, usize), DiskErr>
+    ensures { IfOk result (λ found. found.1 ≤ length buf.new) }
+{
+    let size = disk.size(name)?;
+    let n = disk.read(name, at, buf)?;
+    Ok((size, n))
+}
+
+fn names_of<D: Disk>(disk: &mut D, alloc: Global) -> Result<Seq<Text>, DiskErr> {
+    disk.names(alloc)
+}
+
+// A new folder that holds a few files and two folders.
+fn make_folder<R: Files + Env + AllocGlobal>(rt: &R, name: &str) -> io::Result<PathBuf> {
+    let folder = env::temp_dir(rt)?.join(rt.alloc(), name)?;
+    for made in ["", "lost", "other"] {
+        fs::create_dir(rt, folder.join(rt.alloc(), made)?)?;
+    }
+    for (file, text) in [
+        ("000003.log", "0123456789"),
+        ("CURRENT", "MANIFEST-000002\n"),
+        ("lost/000002.log", "ab"),
+        ("other/000001.log", "cd"),
+    ] {
+        fs::write(rt, folder.join(rt.alloc(), file)?, text)?;
+    }
+    Ok(folder)
+}
+
+#[test]
+fn the_system_is_reached(rt: HostRuntime) -> Result<(), Fail> {
+    let alloc = rt.alloc();
+    let name = format!(in alloc; "rescue-{}", process::id(rt.process()))?;
+    let folder = make_folder(&rt, name.as_str())?;
+    let mut disk = FolderDisk::new(&rt, alloc, folder.as_str())?;
+    let names = names_of(&mut disk, alloc)?;
+    let mut found = String::new(alloc);
+    for name in names.as_slice() {
+        found.push_str(name.as_str())?;
+        found.push_str(" ")?;
+    }
+    assert_eq!(rt; found.as_str(), "000003.log CURRENT lost/000002.log ");
+    let mut buf = [0; 4];
+    for (name, at, size, bytes) in [
+        ("000003.log", 0, Some(10), "0123"),
+        ("000003.log", 7, Some(10), "789"),
+        ("000003.log", 10, Some(10), ""),
+        ("000003.log", u64::MAX, Some(10), ""),
+        ("lost/000002.log", 1, Some(2), "b"),
+        ("000004.log", 0, None, ""),
+        ("other", 0, None, ""),
+    ] {
+        let (length, n) = look(&mut disk, name, at, &mut buf)?;
+        assert_eq!(rt; length, size, "{name}");
+        assert_eq!(rt; &buf[..n], bytes.as_bytes(), "{name} at {at}");
+    }
+    rt.remove_dir_all(alloc, folder.as_str())?;
+    Ok(())
+}
+
+#[test]
+fn failures_are_counted(rt: HostRuntime) -> Result<(), Fail> {
+    let alloc = rt.alloc();
+    let mut disk = FolderDisk::new(&rt, alloc, "/absent/folder")?;
+    assert_eq!(rt; names_of(&mut disk, alloc).is_err(), true);
+    assert_eq!(rt; disk.failures, 1);
+    assert_eq!(rt; disk.size("000003.log")?, None);
+    assert_eq!(rt; disk.failures, 1);
+    assert_eq!(rt; disk.size("no\0name"), Err(DiskErr::Failed));
+    assert_eq!(rt; disk.read("no\0name", 0, &mut []), Err(DiskErr::Failed));
+    assert_eq!(rt; disk.failures, 3);
+    disk.failures = u64::MAX;
+    assert_eq!(rt; disk.size("no\0name"), Err(DiskErr::Failed));
+    assert_eq!(rt; disk.failures, u64::MAX);
+    Ok(())
+}
