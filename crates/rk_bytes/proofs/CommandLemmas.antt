@@ -1,5 +1,5 @@
 -- The command of a list of words is the one that they spell.
-use Rattle.std.proofs.Common.{◌≡◌, ℕ, ◌<◌, ◌^◌, ◌&&◌, ◌↔◌, Bool, true, false, cond, ltb, List, [], ◌∷◌, Option, Some, None, Decides, refl, sym, subst, ap, ◌∙◌}
+use Rattle.std.proofs.Common.{◌≡◌, ℕ, ◌<◌, ◌^◌, ◌&&◌, ◌↔◌, Bool, true, false, cond, ltb, List, [], ◌∷◌, Option, Some, None, refl, sym, subst, ap, ◌∙◌}
 use Rattle.std.specs.Prelude.{option_map, bytes_eq, codes, decimal}
 use Rattle.std.specs.Str.Parse.{digits_value}
 use Rattle.std.specs.Cmp.Derive.{both_true}

@@ -1,10 +1,10 @@
 -- The marks of a log end once, and such marks are parted into items in one way.
-use Rattle.std.proofs.Common.{◌≡◌, ℕ, Bool, true, false, cond, List, [], ◌∷◌, ◌++◌, Option, Some, None, refl, sym, subst, ap, ◌∙◌, append_assoc}
+use Rattle.std.proofs.Common.{◌≡◌, ℕ, true, false, cond, List, [], ◌∷◌, ◌++◌, Some, None, refl, sym, subst, ap, ◌∙◌, append_assoc}
 use Rattle.std.proofs.lemmas.List.{append-nil}
 use Rattle.std.proofs.lemmas.Bool.{false≢true}
 use Rattle.rk_bytes.specs.declared.model.GapWhy.TheVariants.{MissingEnd}
 use Rattle.rk_bytes.specs.Model.LogMarks.{Mark, full, first, middle, last, fault, cut, stale, unsupported, file_end, is_end, up_to_end, log_marks}
-use Rattle.rk_bytes.specs.Model.LogItems.{Item, rec, gap, end, is_first, begins_record, middles, after_middles, alone, closed, Parts, nothing, single, record_closed, record_broken, EndsOnce, parting}
+use Rattle.rk_bytes.specs.Model.LogItems.{Item, rec, gap, begins_record, middles, alone, closed, Parts, nothing, single, record_closed, record_broken, EndsOnce, parting}
 
 one_more_mark : (mark : Mark) (marks : List Mark) → is_end mark ≡ false → EndsOnce marks → EndsOnce (mark ∷ marks)
 one_more_mark mark [] other once = absurd once
@@ -57,13 +57,13 @@ parts_both (middle payload place ∷ marks) once =
     let next = parts_both marks (later (middle payload place) marks once refl) in
     record {
       whole = single refl next.whole;
-      unfinished = λ front from. Parts-middle front payload from place marks _ (front ++ payload) refl (next.unfinished (front ++ payload) from)
+      unfinished = λ front from. Parts-middle front payload from place marks _ (front ++ payload) refl (next.unfinished (front ++ payload) from);
     }
 parts_both (last payload place ∷ marks) once =
     let next = parts_both marks (later (last payload place) marks once refl) in
     record {
       whole = single refl next.whole;
-      unfinished = λ front from. subst (λ w. Parts (first front from ∷ last payload place ∷ marks) (rec (w ++ payload) from ∷ parting None marks)) (append-nil front) (record_closed refl refl next.whole)
+      unfinished = λ front from. subst (λ w. Parts (first front from ∷ last payload place ∷ marks) (rec (w ++ payload) from ∷ parting None marks)) (append-nil front) (record_closed refl refl next.whole);
     }
 parts_both (fault why place ∷ marks) once =
     let next = parts_both marks (later (fault why place) marks once refl) in

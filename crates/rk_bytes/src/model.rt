@@ -5,6 +5,8 @@ ghost use Rattle.rk_bytes.specs.Model.LogMarks.{Mark, log_marks};
 ghost use Rattle.rk_bytes.specs.Model.LogItems.{Item, Parts, EndsOnce, parting};
 ghost use Rattle.rk_bytes.specs.Model.Output.{Command, Spells, command_of, exit_status};
 
+use std::fmt;
+
 /// Law: the marks of a log are parted into items in one way, the one that `parting` gives.
 pub fn one_parting()
     ensures marks { (number : ℕ) (bytes : List ℕ) → EndsOnce (log_marks number bytes) }
@@ -43,6 +45,24 @@ pub enum GapWhy {
     Mixed,
 }
 
+impl fmt::Display for GapWhy {
+    ghost use Rattle.std.specs.Prelude.{Some};
+    ghost use Rattle.rk_bytes.specs.Model.Output.{why_word};
+
+    ghost output = { λ why. Some (why_word why) };
+
+    fn fmt<W: fmt::Write>(&self, f: &mut fmt::Formatter<W>) -> fmt::Result {
+        match self {
+            GapWhy::Checksum => write!(f, "Checksum"),
+            GapWhy::Length => write!(f, "Length"),
+            GapWhy::UnknownType => write!(f, "UnknownType"),
+            GapWhy::MissingStart => write!(f, "MissingStart"),
+            GapWhy::MissingEnd => write!(f, "MissingEnd"),
+            GapWhy::Mixed => write!(f, "Mixed"),
+        }
+    }
+}
+
 /// Why the reading of a log ends.
 #[derive(Clone, Copy, Debug, PartialEq, Eq)]
 pub enum EndKind {
@@ -54,6 +74,22 @@ pub enum EndKind {
     Stale,
     /// At a record of a type that isn't supported.
     Unsupported(u8),
+}
+
+impl fmt::Display for EndKind {
+    ghost use Rattle.std.specs.Prelude.{Some};
+    ghost use Rattle.rk_bytes.specs.Model.Output.{kind_words};
+
+    ghost output = { λ kind. Some (kind_words kind) };
+
+    fn fmt<W: fmt::Write>(&self, f: &mut fmt::Formatter<W>) -> fmt::Result {
+        match self {
+            EndKind::Clean => write!(f, "Clean"),
+            EndKind::Torn => write!(f, "Torn"),
+            EndKind::Stale => write!(f, "Stale"),
+            EndKind::Unsupported(kind) => write!(f, "Unsupported {kind}"),
+        }
+    }
 }
 
 /// How the program ended. The exit status is the variant's place in this list.

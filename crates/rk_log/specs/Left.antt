@@ -1,5 +1,5 @@
 -- The items that are left where a part of a log's file is.
-use Rattle.std.specs.Prelude.{ℕ, ◌+◌, List, ◌++◌, length, None}
+use Rattle.std.specs.Prelude.{◌+◌, List, ◌++◌, length, None}
 use Rattle.rk_bytes.specs.Model.LogMarks.{Mark, block_marks, blocks_marks, block_count, up_to_end}
 use Rattle.rk_bytes.specs.Model.LogItems.{Item, parting}
 use Rattle.rk_log.specs.declared.rest.Rest.{Rest}

@@ -10,6 +10,7 @@ use std::marker::Model;
 
 /// Reads the bytes of a log's file. Contracts see it as the list of the items that are left, of which
 /// the last is the end.
+#[derive(Debug, Drop)]
 pub struct LogReader<'a> {
     rest: Rest<'a>,
 }

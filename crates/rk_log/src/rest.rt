@@ -10,6 +10,7 @@ use rk_bytes::model::EndKind;
 const BLOCK_LEN: usize = 32_768;
 
 /// What is left of a log's file.
+#[derive(Debug, Drop)]
 pub(crate) struct Rest<'a> {
     /// The rest of the block, and the place where it begins.
     block: &'a [u8],

@@ -94,6 +94,14 @@ command_output (Some (dump_wal n)) d = dump_wal_output n (get d (log_name n))
 abbrev pub output : List (List ℕ) → Directory → Output
 output words d = command_output (command_of words) d
 
--- What was taken is whole lines of the text, and then the last bytes.
-abbrev pub TakesLines : List (List ℕ) → List ℕ → List ℕ → List ℕ → Type 0
-TakesLines lines before after last_bytes = (n : ℕ) × (after ≡ before ++ (joined (take n lines) ++ last_bytes))
+-- an output, where it is told, took these bytes
+abbrev pub Took : Option (List ℕ) → Option (List ℕ) → List ℕ → Type 0
+Took before after bytes = after ≡ option_map (λ front. front ++ bytes) before
+
+-- it took whole lines from the first on, and then these bytes
+abbrev pub TookLines : Option (List ℕ) → Option (List ℕ) → List (List ℕ) → List ℕ → Type 0
+TookLines before after lines bytes = (n : ℕ) × Took before after (joined (take n lines) ++ bytes)
+
+-- it took a front of these bytes
+abbrev pub TookFront : Option (List ℕ) → Option (List ℕ) → List ℕ → Type 0
+TookFront before after bytes = (n : ℕ) × Took before after (take n bytes)

@@ -1,4 +1,4 @@
-use Rattle.std.proofs.Common.{◌≡◌, ℕ, ◌≤◌, ◌∷◌, eqb, length, sym, ap, ◌∙◌, arith}
+use Rattle.std.proofs.Common.{◌≡◌, ◌≤◌, ◌∷◌, eqb, length, sym, ap, ◌∙◌, arith}
 use Rattle.rk_bytes.specs.Model.Checksums.{crc32c, mask}
 use Rattle.rk_bytes.specs.Model.LogMarks.{stored_sum, type_of, payload_of}
 use Rattle.rk_log.proofs.BlockLemmas.{summed_bytes, stored_sum-bytes}

@@ -1,6 +1,6 @@
-use Rattle.std.proofs.Common.{◌≡◌, ℕ, None, length, refl, sym, ap, ◌∙◌, zero-add}
+use Rattle.std.proofs.Common.{None, length, refl, sym, ap, ◌∙◌, zero-add}
 use Rattle.std.specs.Prelude.{◌==◌}
-use Rattle.rk_bytes.specs.Model.LogMarks.{block_len, block_count, blocks_marks, up_to_end, log_marks}
+use Rattle.rk_bytes.specs.Model.LogMarks.{block_count, blocks_marks, up_to_end, log_marks}
 use Rattle.rk_bytes.specs.Model.LogItems.{parting}
 use Rattle.rk_log.proofs.LeftLemmas.{block_len-value, items_left-at}
 use Rattle.rk_log.proofs.rest.Rest.new.Goals as goal

@@ -1,4 +1,4 @@
-use Rattle.std.proofs.Common.{◌≡◌, ℕ, ◌+◌, length, refl, sym, ap, ◌∙◌, arith, length-drop, length-take}
+use Rattle.std.proofs.Common.{◌+◌, length, refl, sym, ap, ◌∙◌, arith, length-drop, length-take}
 use Rattle.std.specs.Prelude.{◌==◌}
 use Rattle.rk_bytes.specs.Model.LogMarks.{block_len}
 use Rattle.rk_log.proofs.LeftLemmas.{block_len-value, items_left-at, items_left-nothing}

@@ -1,4 +1,4 @@
-use Rattle.std.proofs.Common.{◌≡◌, refl, sym, ◌∙◌}
+use Rattle.std.proofs.Common.{refl, sym, ◌∙◌}
 use Rattle.std.proofs.lemmas.Bool.{eqb-true}
 use Rattle.rk_bytes.specs.Model.LogMarks.{full, fault}
 use Rattle.rk_bytes.specs.Model.LogItems.{rec, gap}

@@ -1,0 +1,4 @@
+pub mod NumberWords
+pub mod Taken
+pub mod Names
+pub mod Faults

@@ -1,0 +1,14 @@
+//! The commands: `run` takes the words of one, and writes what it says of a disk's files.
+#![tactic(auto)]
+
+mod command;
+mod lines;
+mod log_dump;
+mod program;
+mod stop;
+
+pub use program::run;
+pub use rk_bytes::model::Status;
+
+#[cfg(test)]
+mod tests;

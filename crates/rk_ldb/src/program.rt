@@ -1,0 +1,103 @@
+ghost use Rattle.std.specs.Prelude.{◌≡◌, ℕ, ◌+◌, ◌^◌, ◌<◌, ◌⊎◌, ◌∷◌, [], Ok, IfOk, IsErrOf, IfSome, IsNone, length, take};
+ghost use Rattle.rk_bytes.specs.Model.DiskImages.{Rose};
+ghost use Rattle.rk_bytes.specs.Model.Output.{output, text, command_of, command_output, usage_line, disk_fault_line, memory_fault_line, Took, TookLines, TookFront};
+ghost use Rattle.rk_ldb.specs.Answers.{IsAnswer, IsCommandAnswer, EndsInFault, TookPart};
+ghost use Rattle.rk_ldb.specs.Stops.{TookUpTo, CountsStop};
+
+use crate::command::{Command, read_command};
+use crate::lines::{DISK_FAULT_LINE, MEMORY_FAULT_LINE, USAGE_LINE, write_line};
+use crate::log_dump::dump_wal;
+use crate::stop::Stop;
+use rk_bytes::Text;
+use rk_bytes::model::Status;
+use rk_disk::{Disk, Sink, SinkErr};
+use std::alloc::Global;
+
+/// Runs the command that the words spell over the files of the disk, and writes its lines, each by
+/// one `write` of the output. After a fault of the disk or want of memory the last line names it.
+pub fn run<D: Disk, S: Sink>(alloc: Global, words: &[Text], disk: &mut D, out: &mut S) -> Status
+    // An answer is that of the definition, in full, and nothing else was taken.
+    ensures answer { IsAnswer result → IfSome (D.contents disk.old) (λ d.
+        Took (S.taken out.old) (S.taken out.new) (text (output words.now d)) × (result ≡ (output words.now d).status)) }
+
+    // The words alone decide whether the answer is the usage line.
+    ensures usage { result ≡ Status.Usage → IsNone (command_of words.now) }
+    ensures no_usage { IsNone (command_of words.now) → (result ≡ Status.Usage) ⊎ ((result ≡ Status.SinkFault) ⊎ (result ≡ Status.Memory)) }
+
+    // A fault has a cause, and the first one counts.
+    ensures disk_fault { result ≡ Status.DiskFault → Rose (D.faults disk.old) (D.faults disk.new) }
+    ensures sink_fault { result ≡ Status.SinkFault → Rose (S.faults out.old) (S.faults out.new) × (D.faults disk.new ≡ D.faults disk.old) }
+
+    // Where the disk failed first, want of memory is the output's, at the line of that fault.
+    ensures memory { result ≡ Status.Memory → (D.faults disk.new ≡ D.faults disk.old) ⊎ IfSome (D.contents disk.old) (λ d.
+        TookLines (S.taken out.old) (S.taken out.new) (output words.now d).lines []) }
+
+    // What was taken up to a fault.
+    ensures disk_fault_text { result ≡ Status.DiskFault → IfSome (D.contents disk.old) (λ d.
+        EndsInFault (S.taken out.old) (S.taken out.new) (output words.now d).lines disk_fault_line (Rose (S.faults out.old) (S.faults out.new))) }
+    ensures memory_text { result ≡ Status.Memory → IfSome (D.contents disk.old) (λ d.
+        EndsInFault (S.taken out.old) (S.taken out.new) (output words.now d).lines memory_fault_line (Unit {0})) }
+    ensures sink_fault_text { result ≡ Status.SinkFault → IfSome (D.contents disk.old) (λ d.
+        TookFront (S.taken out.old) (S.taken out.new) (text (output words.now d))) }
+
+    ensures contents { D.contents disk.new ≡ D.contents disk.old }
+{
+    match answer(alloc, words, disk, out) {
+        Ok(status) => status,
+        Err(Stop::Disk) => end_after_disk_fault(out),
+        Err(Stop::Sink) => Status::SinkFault,
+        Err(Stop::Memory) => end_after_want_of_memory(out),
+    }
+}
+
+/// Writes the lines of the words' command.
+fn answer<D: Disk, S: Sink>(
+    alloc: Global,
+    words: &[Text],
+    disk: &mut D,
+    out: &mut S,
+) -> Result<Status, Stop>
+    ensures lines { IfSome (D.contents disk.old) (λ d. TookUpTo (S.taken out.old) (S.taken out.new) (output words.now d).lines result) }
+    ensures status { IfSome (D.contents disk.old) (λ d. IfOk result (λ status. status ≡ (output words.now d).status)) }
+    ensures usage { IfOk result (λ status. IsCommandAnswer status ⊎ ((status ≡ Status.Usage) × IsNone (command_of words.now))) }
+    ensures no_usage { IsNone (command_of words.now) → (result ≡ Ok Status.Usage) ⊎ (IsErrOf result Stop.Sink ⊎ IsErrOf result Stop.Memory) }
+    ensures counts { CountsStop (D.faults disk.old) (D.faults disk.new) (S.faults out.old) (S.faults out.new) result }
+    ensures contents { D.contents disk.new ≡ D.contents disk.old }
+{
+    match read_command(words) {
+        Some(Command::DumpWal { number }) => dump_wal(alloc, number, disk, out),
+        None => answer_with_usage(out),
+    }
+}
+
+/// Writes the line that answers words which spell no command.
+fn answer_with_usage<S: Sink>(out: &mut S) -> Result<Status, Stop>
+    ensures lines { TookUpTo (S.taken out.old) (S.taken out.new) (usage_line ∷ []) result }
+    ensures status { IfOk result (λ status. status ≡ Status.Usage) }
+    ensures counts { CountsStop 0 0 (S.faults out.old) (S.faults out.new) result }
+{
+    write_line(USAGE_LINE, out)?;
+    Ok(Status::Usage)
+}
+
+/// Writes the line that ends the output after a fault of the disk.
+fn end_after_disk_fault<S: Sink>(out: &mut S) -> Status
+    ensures status { (result ≡ Status.DiskFault) ⊎ (result ≡ Status.Memory) }
+    ensures line { result ≡ Status.DiskFault → TookPart (S.taken out.old) (S.taken out.new) disk_fault_line (Rose (S.faults out.old) (S.faults out.new)) }
+    ensures memory { result ≡ Status.Memory → S.taken out.new ≡ S.taken out.old }
+{
+    match out.write(DISK_FAULT_LINE.as_bytes()) {
+        Ok(()) => Status::DiskFault,
+        Err(SinkErr::Failed) => Status::DiskFault,
+        Err(SinkErr::Memory) => Status::Memory,
+    }
+}
+
+/// Writes the line that ends the output after want of memory, where the output can still take it.
+fn end_after_want_of_memory<S: Sink>(out: &mut S) -> Status
+    ensures status { result ≡ Status.Memory }
+    ensures line { TookPart (S.taken out.old) (S.taken out.new) memory_fault_line (Unit {0}) }
+{
+    let _ = out.write(MEMORY_FAULT_LINE.as_bytes());
+    Status::Memory
+}
