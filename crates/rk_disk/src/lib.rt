@@ -14,3 +14,6 @@ pub use mem_disk::MemDisk;
 pub use mem_sink::MemSink;
 pub use read::read_file;
 pub use sink::{Sink, SinkErr};
+
+#[cfg(test)]
+mod tests;
