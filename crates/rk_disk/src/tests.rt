@@ -137,16 +137,25 @@ fn a_disk_fails_where_it_is_set_to(rt: HostRuntime) -> Result<(), Fail> {
         );
         assert_eq!(rt; disk.calls(), call);
     }
-    disk.fail_at(7)?;
-    disk.fail_at(8)?;
+    Ok(())
+}
+
+#[test]
+fn each_call_can_fail(rt: HostRuntime) -> Result<(), Fail> {
+    let alloc = rt.alloc();
+    let mut disk = MemDisk::new(alloc)?;
+    disk.put_file("f", b"abc")?;
+    for call in [1, 2, 4] {
+        disk.fail_at(call)?;
+    }
     assert_eq!(rt; names_of(alloc, &mut disk).err(), Some(DiskErr::Failed));
     assert_eq!(rt; size_of_file(&mut disk, "f"), Err(DiskErr::Failed));
-    assert_eq!(rt; disk.file("f"), Some(b"abc".as_slice()));
-    disk.fail_at(10)?;
+    // The read that follows the size.
     assert_eq!(rt;
         read_file(alloc, &mut disk, "f").err(),
         Some(DiskErr::Failed)
     );
+    assert_eq!(rt; disk.file("f"), Some(b"abc".as_slice()));
     Ok(())
 }
 
