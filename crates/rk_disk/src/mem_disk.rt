@@ -104,6 +104,7 @@ impl Disk for MemDisk {
         ensures counted { self.new ≡ after_reading self.old }
         ensures faults { Counts (disk_failed result) (faults_of self.old.plan) (faults_of self.new.plan) }
     {
+        // Before the call may fail, since `short` holds of a call that fails too.
         let size = self.files.size(name);
         if self.plan.count_call() {
             return Err(DiskErr::Failed);
