@@ -1,6 +1,6 @@
 -- Sets of calls that are to fail, and how many of these were made.
 use Rattle.std.proofs.Common.{◌≡◌, ◌≢◌, ℕ, ◌+◌, ◌<◌, ◌≤◌, Bool, true, false, cond, ◌||◌, ◌&&◌, nat_eq, nat_le, nat_lt, inl, inr, List, [], ◌∷◌, ◌++◌, get_or, sym, ap, subst, ◌∙◌, refl, arith}
-use Rattle.std.proofs.lemmas.Bool.Decides.{nat_tests, eqb_tells}
+use Rattle.std.proofs.lemmas.Bool.Decides.{nat_tests, eqb_tells, leb_tells}
 use Rattle.std.proofs.lemmas.Bool.{ne_eqb}
 use Rattle.std.proofs.lemmas.Grind.{get_or_default_zero}
 use Rattle.std.proofs.lemmas.List.Folds.{list_any_none}
@@ -63,8 +63,14 @@ up_to-other s c lacks =
     ∙ lets_in_none (contains s) q c lacks
     ∙ sym (contains-up_to s c q))
 
+both_false : (a b : Bool) → (a && false) ≡ (b && false)
+both_false true true = refl
+both_false true false = refl
+both_false false true = refl
+both_false false false = refl
+
 above : (p : ℕ → Bool) (c : ℕ) → (p (c + 1) && nat_le (c + 1) c) ≡ false
-above p c = let none : nat_le (c + 1) c ≡ false = grind (arith, nat_tests) in ap (λ b. p (c + 1) && b) none ∙ elim (p (c + 1)) as (λ b. (b && false) ≡ false) [ true ↦ refl | false ↦ refl ]
+above p c = let no : nat_le (c + 1) c ≡ false = grind (arith, nat_tests) in ap (λ b. p (c + 1) && b) no ∙ both_false (p (c + 1)) true
 
 len-next : (s : FinSet nat_cmp) (c : ℕ) → contains s (c + 1) ≡ true → len (up_to s (c + 1)) ≡ len (up_to s c) + 1
 len-next s c has =
@@ -82,6 +88,23 @@ counts_call was plan next fails same later is =
     subst (λ p. Counts fails (faults_of p) (faults_of (record was { calls = next }))) same
     (subst (λ n. Counts fails (faults_of was) (faults_of (record was { calls = n }))) (sym later)
     (counts_next was.failing was.calls fails (is ∙ ap (contains was.failing) later)))
+
+-- a member above a bound is none of those up to it
+leaves_out : (p : ℕ → Bool) (k c q : ℕ) → c < k → ((nat_eq q k || p q) && nat_le q c) ≡ (p q && nat_le q c)
+leaves_out p k c q late =
+    elim (eqb_tells q k) [
+      | inl same ↦
+          let no : nat_le q c ≡ false = grind (arith, nat_tests, same.1) in
+          ap (λ b. (nat_eq q k || p q) && b) no ∙ both_false (nat_eq q k || p q) (p q) ∙ sym (ap (λ b. p q && b) no)
+      | inr other ↦ ap (λ b. (b || p q) && nat_le q c) other.0
+    ]
+
+up_to-insert : (s : FinSet nat_cmp) (k c : ℕ) → c < k → up_to (insert s k) c ≡ up_to s c
+up_to-insert s k c late =
+    same_set nat_cmp_total nat_cmp-IsAntisymmetric _ _ (λ q. contains-up_to (insert s k) c q
+    ∙ ap (λ b. b && nat_le q c) (contains-insert nat_cmp_total s k q ∙ ap (λ b. b || contains s q) (unsigned_tied q k))
+    ∙ leaves_out (contains s) k c q late
+    ∙ sym (contains-up_to s c q))
 
 -- a number above all of a list is none of them
 pub past_all : (xs : List ℕ) (top c : ℕ) → ((k : ℕ) → get_or xs k 0 < top) → top ≤ c → contains (from_list {R = nat_cmp} xs) c ≡ false
@@ -103,3 +126,11 @@ sets_again call plan later has = sym (sets call plan later ∙ ap (λ s. record 
 
 pub sets_none : (call : ℕ) (plan : CallPlan) → call ≤ plan.calls → plan ≡ with_failing call plan
 sets_none call plan passed = let no : nat_lt plan.calls call ≡ false = grind (arith, nat_tests) in sym (ap (λ b. cond b (record plan { failing = insert plan.failing call }) plan) no)
+
+-- to set a call doesn't count as a fault
+pub faults-with_failing : (call : ℕ) (plan : CallPlan) → faults_of (with_failing call plan) ≡ faults_of plan
+faults-with_failing call plan =
+    elim (leb_tells (plan.calls + 1) call) [
+      | inl later ↦ ap faults_of (sets call plan (omega (arith, later.1))) ∙ ap len (up_to-insert plan.failing call plan.calls (omega (arith, later.1)))
+      | inr passed ↦ ap faults_of (sym (sets_none call plan (omega (arith, passed.1))))
+    ]

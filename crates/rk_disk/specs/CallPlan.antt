@@ -17,7 +17,7 @@ unused_plan = record { failing = empty; calls = 0 }
 abbrev pub fails_next : CallPlan → Bool
 fails_next plan = contains plan.failing (plan.calls + 1)
 
--- after one more call: the count stands still at the last value of a u64
+-- after one more call: the count stands still at the last value of a u64, and no number of a call lies past it
 abbrev pub after_call : CallPlan → CallPlan
 after_call plan = record plan { calls = min (plan.calls + 1) (2 ^ 64 - 1) }
 

@@ -1,4 +1,4 @@
--- Which answers of a disk or an output are faults.
+-- Which answers of a disk or an output are faults. This project's own rule.
 use Rattle.std.specs.Prelude.{Bool, true, false, Result, Ok, Err}
 use Rattle.rk_disk.specs.declared.disk.DiskErr.{DiskErr}
 use Rattle.rk_disk.specs.declared.disk.DiskErr.TheVariants as disk

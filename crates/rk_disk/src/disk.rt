@@ -4,7 +4,7 @@ ghost use Rattle.rk_bytes.specs.Model.DiskImages.{Directory, part_at, Counts};
 ghost use Rattle.rk_disk.specs.Faults.{disk_failed};
 
 use rk_bytes::{Memory, Seq, Text};
-use std::alloc::{AllocError, AllocFailed, Global};
+use std::alloc::{AllocError, Global};
 use std::error::Error;
 use std::fmt;
 

@@ -9,7 +9,7 @@ use std::collections::BTreeMap;
 use std::marker::Model;
 
 /// Files in memory by name.
-#[derive(Drop)]
+#[derive(Debug, Drop)]
 pub(crate) struct Files {
     alloc: Global,
     by_name: BTreeMap<String, Vec<u8>>,

@@ -1,4 +1,5 @@
-//! The disk and the output as the layers above see them, and forms of both in memory.
+//! The disk and the output as the layers above see them, forms of both in memory, and the reading
+//! of a whole file.
 #![tactic(auto)]
 
 mod disk;
@@ -14,3 +15,6 @@ pub use mem_disk::MemDisk;
 pub use mem_sink::MemSink;
 pub use read::read_file;
 pub use sink::{Sink, SinkErr};
+
+#[cfg(test)]
+mod tests;

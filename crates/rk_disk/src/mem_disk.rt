@@ -1,4 +1,4 @@
-ghost use Rattle.std.specs.Prelude.{◌≡◌, ◌↔◌, ◌^◌, ◌<◌, ◌++◌, [], length, drop, Some, IfOk, IfSome, OnOk, OnErr, IsErrOf, IsTrue, unwrap_or, option_map};
+ghost use Rattle.std.specs.Prelude.{◌≡◌, ◌↔◌, ◌^◌, ◌<◌, ◌≤◌, ◌++◌, [], length, drop, Some, IfOk, IfSome, OnOk, OnErr, IsErrOf, IsTrue, unwrap_or, option_map};
 ghost use Rattle.std.specs.Option.{option_copied};
 ghost use Rattle.std.specs.FinMap as map;
 ghost use Rattle.rk_bytes.specs.Model.DiskImages.{part_at, Counts};
@@ -14,7 +14,7 @@ use std::alloc::Global;
 use std::marker::Model;
 
 /// A disk in memory, which tells its contents. The calls that are set to fail do, and no others.
-#[derive(Drop)]
+#[derive(Debug, Drop)]
 pub struct MemDisk {
     files: Files,
     plan: Plan,
@@ -55,6 +55,7 @@ impl MemDisk {
     pub fn fail_at(&mut self, call: u64) -> Result<(), Memory>
         ensures ok { OnOk result (self.new ≡ record self.old { plan = with_failing call self.old.plan }) }
         ensures err { OnErr result (self.new ≡ self.old) }
+        ensures faults { faults_of self.new.plan ≡ faults_of self.old.plan }
     {
         self.plan.fail_at(call)
     }
@@ -103,6 +104,7 @@ impl Disk for MemDisk {
         ensures counted { self.new ≡ after_reading self.old }
         ensures faults { Counts (disk_failed result) (faults_of self.old.plan) (faults_of self.new.plan) }
     {
+        // Before the call may fail, since `short` holds of a call that fails too.
         let size = self.files.size(name);
         if self.plan.count_call() {
             return Err(DiskErr::Failed);
@@ -112,6 +114,7 @@ impl Disk for MemDisk {
 
     /// Takes no memory. A call that fails leaves the buffer.
     fn read(&mut self, name: &str, at: u64, buf: &mut [u8]) -> Result<usize, DiskErr>
+        ensures within { IfOk result (λ n. n ≤ length buf.old) }
         ensures part { IfOk result (λ n.
             let part = part_at at (length buf.old) (unwrap_or (map.get self.old.files name.now) []) in
             (n ≡ length part) × (buf.new ≡ part ++ drop n buf.old)) }

@@ -44,6 +44,7 @@ impl MemSink {
     pub fn fail_at(&mut self, call: u64) -> Result<(), Memory>
         ensures ok { OnOk result (self.new ≡ record self.old { plan = with_failing call self.old.plan }) }
         ensures err { OnErr result (self.new ≡ self.old) }
+        ensures faults { faults_of self.new.plan ≡ faults_of self.old.plan }
     {
         self.plan.fail_at(call)
     }

@@ -45,6 +45,7 @@ impl Plan {
     pub(crate) fn fail_at(&mut self, call: u64) -> Result<(), Memory>
         ensures ok { OnOk result (self.new ≡ with_failing call self.old) }
         ensures err { OnErr result (self.new ≡ self.old) }
+        ensures faults { faults_of self.new ≡ faults_of self.old }
     {
         if call > self.calls && !self.failing.contains(&call) {
             self.failing.push(call)?;

@@ -1,8 +1,8 @@
 use Rattle.std.proofs.Common.{◌≡◌, ap, sym, ◌∙◌, nat_eq}
 use Rattle.std.specs.List.{list_any}
 use Rattle.std.specs.FinSet.{from_list, contains-from_list_nat}
-use Rattle.rk_disk.specs.CallPlan.{CallPlan, with_failing}
-use Rattle.rk_disk.proofs.Plans.{sets_new, sets_again, sets_none}
+use Rattle.rk_disk.specs.CallPlan.{CallPlan, with_failing, faults_of}
+use Rattle.rk_disk.proofs.Plans.{sets_new, sets_again, sets_none, faults-with_failing}
 use Rattle.rk_disk.proofs.plan.Plan.fail_at.Goals as goal
 use Rattle.rk_disk.proofs.plan.Plan.fail_at.Goals.{else-call-self-via-then-call-self+else-not-contains, else-call-self-via-else-call-self}
 
@@ -14,6 +14,9 @@ returns-in_ok-push-clause-ok c =
     ap (λ ys. record { failing = from_list ys; calls = calls }) c.in_ok-push.ensures.items
     ∙ sets_new xs c.args.call was c.if-call-self.true (λ _. from_list xs)
     ∙ ap (with_failing c.args.call) c.self.view_is
+
+pub returns-in_ok-push-clause-faults : goal.returns-in_ok-push-clause-faults
+returns-in_ok-push-clause-faults c = ap faults_of (returns-in_ok-push-clause-ok c) ∙ faults-with_failing c.args.call c.args.self.now
 
 pub returns-else-call-self-clause-ok : goal.returns-else-call-self-clause-ok
 returns-else-call-self-clause-ok c =
