@@ -1,4 +1,6 @@
-ghost use Rattle.std.specs.Prelude.{◌≡◌, ◌≤◌, None, Ok, IfOk, length};
+ghost use Rattle.std.specs.Prelude.{◌≡◌, ◌≢◌, ◌<◌, ◌≤◌, None, Ok, IfOk, IfErr, length, map, take, string_bytes, IsSorted};
+ghost use Rattle.std.specs.IoError.{error_kind};
+ghost use Rattle.std.specs.Io.KnownBytes.{Consumes, IsAtEnd};
 ghost use Rattle.rk_bytes.specs.Model.DiskImages.{Counts};
 ghost use Rattle.rk_disk.specs.Faults.{disk_failed};
 
@@ -60,7 +62,9 @@ impl<'r, R: Files> FolderDisk<'r, R> {
     }
 
     // What the system says of the path, or `None` where there is nothing.
-    fn metadata(&self, path: Path<'_>) -> io::Result<Option<Metadata>> {
+    fn metadata(&self, path: Path<'_>) -> io::Result<Option<Metadata>>
+        ensures { IfErr result (λ error. error_kind error ≢ ErrorKind.NotFound) }
+    {
         match fs::metadata(self.rt, path) {
             Ok(metadata) => Ok(Some(metadata)),
             Err(error) if error.kind() == ErrorKind::NotFound => Ok(None),
@@ -69,14 +73,18 @@ impl<'r, R: Files> FolderDisk<'r, R> {
     }
 
     // The length of the regular file at the path, also at a link's end, or `None` where there is none.
-    fn file_length(&self, path: Path<'_>) -> io::Result<Option<u64>> {
+    fn file_length(&self, path: Path<'_>) -> io::Result<Option<u64>>
+        ensures { IfErr result (λ error. error_kind error ≢ ErrorKind.NotFound) }
+    {
         match self.metadata(path)? {
             Some(metadata) if metadata.is_file() => Ok(Some(metadata.len())),
             _ => Ok(None),
         }
     }
 
-    fn length_of(&self, name: &str) -> io::Result<Option<u64>> {
+    fn length_of(&self, name: &str) -> io::Result<Option<u64>>
+        ensures { IfErr result (λ error. error_kind error ≢ ErrorKind.NotFound) }
+    {
         let path = self.path.join(self.alloc, name)?;
         self.file_length(path.as_path())
     }
@@ -95,7 +103,9 @@ impl<'r, R: Files> FolderDisk<'r, R> {
         }
     }
 
-    fn all_names(&self) -> io::Result<Vec<String>> {
+    fn all_names(&self) -> io::Result<Vec<String>>
+        ensures { IfOk result (λ names. IsSorted ⟦<String as Ord>⟧.cmp names.items) }
+    {
         let mut names = Vec::new(self.alloc);
         self.list(self.path.as_path(), "", &mut names)?;
         let lost = self.path.join(self.alloc, "lost")?;
@@ -144,7 +154,9 @@ impl<'r, R: Files> Disk for FolderDisk<'r, R> {
     }
 }
 
-fn texts(alloc: Global, names: &[String]) -> Result<Seq<Text>, Memory> {
+fn texts(alloc: Global, names: &[String]) -> Result<Seq<Text>, Memory>
+    ensures { IfOk result (λ texts. texts ≡ map string_bytes names.now) }
+{
     let mut texts = Seq::new(alloc);
     for name in names {
         texts.push(Text::copy_of(alloc, name.as_str())?)?;
@@ -154,7 +166,10 @@ fn texts(alloc: Global, names: &[String]) -> Result<Seq<Text>, Memory> {
 
 // Fills the front of the buffer as far as the reader goes, and says how many bytes these are.
 fn fill<F: Read>(from: &mut F, buf: &mut [u8]) -> io::Result<usize>
-    ensures { IfOk result (λ n. n ≤ length buf.old) }
+    ensures within { IfOk result (λ n. n ≤ length buf.old) }
+    ensures bytes { IfOk result (λ n. Consumes (F.remaining from.old) (F.remaining from.new) (take n buf.new)) }
+    ensures whole { IfOk result (λ n. n < length buf.old → IsAtEnd (F.remaining from.new)) }
+    ensures retried { IfErr result (λ error. error_kind error ≢ ErrorKind.Interrupted) }
 {
     let mut filled = 0;
     for _ in 0..u64::MAX {

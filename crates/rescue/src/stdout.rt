@@ -1,8 +1,10 @@
-ghost use Rattle.std.specs.Prelude.{◌≡◌, None};
+ghost use Rattle.std.specs.Prelude.{◌≡◌, ◌≢◌, ℕ, None, OnOk, OnErr, IfErr, take};
+ghost use Rattle.std.specs.IoError.{error_kind};
+ghost use Rattle.std.specs.Io.KnownBytes.{Appends};
 
 use rk_disk::{Sink, SinkErr};
 use std::io;
-use std::io::ErrorKind;
+use std::io::{ErrorKind, Write};
 use std::marker::Model;
 
 /// The standard output of a runtime. It tells nothing of what it took. Contracts see the count of its
@@ -36,7 +38,7 @@ impl<'r, R: Print> Sink for StdoutSink<'r, R> {
     ghost faults = { λ failures. failures };
 
     fn write(&mut self, bytes: &[u8]) -> Result<(), SinkErr> {
-        match write_whole(self.rt, bytes) {
+        match write_whole(&mut io::writer(self.rt), bytes) {
             Ok(()) => Ok(()),
             Err(_) => {
                 self.failures = self.failures.saturating_add(1);
@@ -46,16 +48,20 @@ impl<'r, R: Print> Sink for StdoutSink<'r, R> {
     }
 }
 
-// Each write goes to the system at once, so that after an Ok the system has taken all the bytes.
-fn write_whole(rt: &impl Print, bytes: &[u8]) -> io::Result<()> {
-    let mut rest = bytes;
+// The writer of a runtime keeps nothing back, so that after an Ok the system has all the bytes.
+fn write_whole<W: Write>(to: &mut W, bytes: &[u8]) -> io::Result<()>
+    ensures ok { OnOk result (Appends (W.contents to.old) (W.contents to.new) bytes.now) }
+    ensures err { OnErr result ((n : ℕ) × Appends (W.contents to.old) (W.contents to.new) (take n bytes.now)) }
+    ensures retried { IfErr result (λ error. error_kind error ≢ ErrorKind.Interrupted) }
+{
+    let mut taken = 0;
     for _ in 0..u64::MAX {
-        if rest.is_empty() {
+        if taken == bytes.len() {
             return Ok(());
         }
-        match rt.write_some(rest) {
+        match to.write(&bytes[taken..]) {
             Ok(0) => return Err(io::Error::from(ErrorKind::WriteZero)),
-            Ok(n) => rest = &rest[n..],
+            Ok(n) => taken += n,
             Err(error) if error.kind() == ErrorKind::Interrupted => {}
             Err(error) => return Err(error),
         }
