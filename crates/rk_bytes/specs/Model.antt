@@ -4,4 +4,5 @@ pub mod LogMarks
 pub mod LogItems
 pub mod FileNames
 pub mod DiskImages
+pub mod BlockEntries
 pub mod Output

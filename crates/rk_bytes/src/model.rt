@@ -56,3 +56,34 @@ pub enum Status {
     /// Memory ran out.
     Memory,
 }
+
+/// Why a block isn't one.
+#[derive(Clone, Copy, Debug, PartialEq, Eq)]
+pub enum BlockFault {
+    /// It has fewer bytes than its restart count.
+    Short,
+    /// It has a hash index, which isn't supported.
+    HashIndex,
+    /// Its restart offsets don't fit, or one of them isn't where it must be.
+    BadRestarts,
+    /// The entry at this place doesn't read.
+    BadEntry(u64),
+}
+
+/// Why an index block isn't one, or a block whose values are handles.
+#[derive(Clone, Copy, Debug, PartialEq, Eq)]
+pub enum IndexFault {
+    /// The block doesn't read.
+    Block(BlockFault),
+    /// A value isn't a handle.
+    BadHandle,
+}
+
+/// Where a block stands in its file.
+#[derive(Clone, Copy, Debug, PartialEq, Eq)]
+pub struct Handle {
+    /// The place of its first byte.
+    pub offset: u64,
+    /// How many bytes it has, without its trailer.
+    pub size: u64,
+}
