@@ -5,4 +5,7 @@ pub mod LogItems
 pub mod FileNames
 pub mod DiskImages
 pub mod BlockEntries
+pub mod TableParts
+pub mod TableFooter
+pub mod TableStatus
 pub mod Output

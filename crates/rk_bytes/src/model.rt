@@ -87,3 +87,138 @@ pub struct Handle {
     /// How many bytes it has, without its trailer.
     pub size: u64,
 }
+
+/// Why a block isn't one of range deletions.
+#[derive(Clone, Copy, Debug, PartialEq, Eq)]
+pub enum RangeFault {
+    /// The block doesn't read.
+    Block(BlockFault),
+    /// A key isn't the internal key of a range deletion.
+    BadKey,
+}
+
+/// How the bytes of a block are summed.
+#[derive(Clone, Copy, Debug, PartialEq, Eq)]
+pub enum SumKind {
+    /// Not at all.
+    NoSum,
+    /// CRC32C, masked.
+    Crc32c,
+    /// XXH32.
+    Xxh32,
+    /// The low half of XXH64.
+    Xxh64,
+}
+
+/// Where a table's parts are found, and how they are summed.
+#[derive(Clone, Copy, Debug, PartialEq, Eq)]
+pub struct Footer {
+    /// The format's version: 0 with a legacy footer.
+    pub version: u32,
+    /// How the blocks are summed.
+    pub sum: SumKind,
+    /// The block that names the other meta blocks.
+    pub metaindex: Handle,
+    /// The index block.
+    pub index: Handle,
+    /// The footer's own place.
+    pub start: u64,
+}
+
+/// Why a table's footer isn't one, in the order of the tests.
+#[derive(Clone, Copy, Debug, PartialEq, Eq)]
+pub enum FooterFault {
+    /// There are fewer bytes than a footer has.
+    FooterShort,
+    /// The last eight bytes are no table's.
+    BadMagic,
+    /// A version that isn't supported.
+    UnsupportedVersion(u32),
+    /// A kind of checksum that isn't supported.
+    UnsupportedChecksum(u8),
+    /// A handle doesn't read.
+    BadHandle,
+}
+
+/// Why a block of a file can't be read, in the order of the tests.
+#[derive(Clone, Copy, Debug, PartialEq, Eq)]
+pub enum TrailerFault {
+    /// The block or its trailer passes the end of the bytes.
+    OutOfFile,
+    /// The stored checksum isn't the block's.
+    Checksum,
+    /// The block is compressed in this way, which isn't supported.
+    Compressed(u8),
+}
+
+/// Why a table is damaged.
+#[derive(Clone, Copy, Debug, PartialEq, Eq)]
+pub enum TableWhy {
+    /// There are fewer bytes than a footer has.
+    FooterShort,
+    /// The last eight bytes are no table's.
+    BadMagic,
+    /// What should be a handle doesn't read.
+    BadHandle,
+    /// A block passes the footer's start.
+    OutOfFile,
+    /// A block's stored checksum isn't its own.
+    Checksum,
+    /// A block's entries or restart offsets don't read.
+    Block,
+    /// A property's value hasn't its form.
+    BadProperty,
+    /// A key is none that may stand there.
+    BadKey,
+    /// A key isn't above the one before.
+    BadOrder,
+    /// A data block lies outside its separators.
+    BadSeparator,
+}
+
+/// What in a table isn't supported.
+#[derive(Clone, Copy, Debug, PartialEq, Eq)]
+pub enum TableWhat {
+    /// The format's version.
+    Version(u32),
+    /// The kind of checksum.
+    Checksum(u8),
+    /// A block's compression.
+    Compressed(u8),
+    /// Another comparator than the bytewise one.
+    Comparator,
+    /// The index's type.
+    IndexType(u32),
+    /// It was written outside a database.
+    External,
+    /// A block with a hash index.
+    HashIndex,
+    /// A record's kind.
+    RecordKind(u8),
+}
+
+/// What a record of a database does.
+#[derive(Clone, Copy, Debug, PartialEq, Eq)]
+pub enum Kind {
+    /// Removes a key.
+    Deletion,
+    /// Sets a key's value.
+    Value,
+    /// Adds an operand to a key's value.
+    Merge,
+    /// Removes a key that was set once.
+    SingleDeletion,
+    /// Removes the keys of a range.
+    RangeDeletion,
+}
+
+/// Why bytes are no internal key.
+#[derive(Clone, Copy, Debug, PartialEq, Eq)]
+pub enum KeyFault {
+    /// There are fewer than eight.
+    Short,
+    /// The record's kind isn't supported.
+    UnsupportedKind(u8),
+    /// No record is of this kind.
+    UnknownKind(u8),
+}
