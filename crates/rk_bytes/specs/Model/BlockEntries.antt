@@ -1,8 +1,8 @@
 -- The entries of a block, and the handles of an index block (RocksDB's wiki, "Rocksdb BlockBasedTable
 -- Format"; table/block_based/block_builder.cc, table/format.cc). The tests and their order are this
 -- project's own rule.
-use Rattle.std.specs.Prelude.{◌≡◌, ℕ, zero, suc, ◌+◌, ◌-◌, ◌*◌, ◌^◌, ◌==◌, ℤ, pos, negsuc, ◌+ℤ◌, Bool, true, false, ◌&&◌, ◌||◌, List, [], ◌∷◌, ◌++◌, length, map, take, drop, slice_index, nat_lt, nat_le, if◌then◌else◌, Option, Some, None, option_map, ok_or, Result, Ok, Err, bytes_eq, codes, refl}
-use Rattle.std.specs.List.{list_any, list_all}
+use Rattle.std.specs.Prelude.{◌≡◌, ℕ, zero, suc, ◌+◌, ◌-◌, ◌*◌, ◌^◌, ◌<◌, ◌≤◌, ◌==◌, IsTrue, ℤ, pos, negsuc, ◌+ℤ◌, Bool, true, false, ◌&&◌, ◌||◌, List, [], ◌∷◌, ◌++◌, length, map, flat_map, take, drop, slice_index, nat_lt, nat_le, if◌then◌else◌, Option, Some, None, option_map, ok_or, Result, Ok, Err, bytes_eq, codes, refl}
+use Rattle.std.specs.List.{list_any, list_all, AllByRecursion}
 use Rattle.rk_bytes.specs.declared.model.BlockFault.{BlockFault}
 use Rattle.rk_bytes.specs.declared.model.BlockFault.TheVariants.{Short, HashIndex, BadRestarts, BadEntry}
 use Rattle.rk_bytes.specs.declared.model.IndexFault.{IndexFault}
@@ -10,7 +10,7 @@ use Rattle.rk_bytes.specs.declared.model.IndexFault.TheVariants.{Block, BadHandl
 use Rattle.rk_bytes.specs.declared.model.NumFault.{NumFault}
 use Rattle.rk_bytes.specs.declared.model.NumFault.TheVariants.{TooLarge}
 use Rattle.rk_bytes.specs.declared.model.Handle.{Handle}
-use Rattle.rk_bytes.specs.Model.Numbers.{little_endian, from_zigzag, Read, ◌>>=◌, part_of, varint32_at, varint64_at}
+use Rattle.rk_bytes.specs.Model.Numbers.{little_endian, fixed_of, IsVarint32, from_zigzag, Read, ◌>>=◌, part_of, varint32_at, varint64_at}
 
 -- A value under its key.
 pub record Keyed (V : Type 0) : Type 0 where
@@ -75,7 +75,7 @@ is_restart entries offset = list_any (λ entry. entry.place == offset && entry.s
 
 abbrev pub right_restarts : {V : Type 0} → List (Entry V) → List ℕ → Bool
 right_restarts [] offsets = bytes_eq offsets (0 ∷ [])
-right_restarts entries offsets = slice_index offsets 0 == 0 && rises offsets && list_all (is_restart entries) offsets
+right_restarts entries offsets = bytes_eq (take 1 offsets) (0 ∷ []) && rises offsets && list_all (is_restart entries) offsets
 
 -- before the first entry: an empty key
 abbrev pub no_entry : {V : Type 0} → V → Entry V
@@ -113,6 +113,36 @@ next_entry len before bytes = let place = len - length bytes in with_fault (λ f
 -- the entries of a block, or the first fault
 unfoldable pub block_entries : List ℕ → Result (List (Entry (List ℕ))) BlockFault
 block_entries block = block_with (λ fault. fault) [] next_entry block
+
+-- The bytes spell the entry that follows this key: three lengths, each in any spelling, the rest of its
+-- key and its value.
+pub record SpellsEntry (before bytes : List ℕ) (entry : Entry (List ℕ)) : Type 0 where
+  pub shared_len : List ℕ
+  pub rest_len : List ℕ
+  pub value_len : List ℕ
+  pub rest : List ℕ
+  pub spelled : bytes ≡ shared_len ++ (rest_len ++ (value_len ++ (rest ++ entry.value)))
+  pub shares : IsVarint32 shared_len entry.shared
+  pub rests : IsVarint32 rest_len (length rest)
+  pub holds : IsVarint32 value_len (length entry.value)
+  pub within : entry.shared ≤ length before
+  pub key : entry.key ≡ take entry.shared before ++ rest
+
+-- The bytes spell these entries, from a place on and after a key.
+pub data AreEntries : ℕ → List ℕ → List ℕ → List (Entry (List ℕ)) → Type 0 where
+  no_more : {place : ℕ} {before : List ℕ} → AreEntries place before [] []
+  one_more : {place : ℕ} {before bytes spelled rest : List ℕ} {entry : Entry (List ℕ)} {entries : List (Entry (List ℕ))} → bytes ≡ spelled ++ rest → entry.place ≡ place → SpellsEntry before spelled entry → AreEntries (place + length spelled) entry.key rest entries → AreEntries place before bytes (entry ∷ entries)
+
+-- The bytes are a block of these entries: their spelling, restart offsets that are right for them, and
+-- how many offsets there are.
+pub record IsBlock (block : List ℕ) (entries : List (Entry (List ℕ))) : Type 0 where
+  pub spelled : List ℕ
+  pub offsets : List ℕ
+  pub parts : block ≡ spelled ++ (flat_map (fixed_of 4) offsets ++ fixed_of 4 (length offsets))
+  pub few : length offsets < 2 ^ 31
+  pub fit : AllByRecursion (λ offset. offset < 2 ^ 32) offsets
+  pub are : AreEntries 0 [] spelled entries
+  pub restarts : IsTrue (right_restarts entries offsets)
 
 abbrev pub handle_at : List ℕ → Read Handle
 handle_at bytes = do
