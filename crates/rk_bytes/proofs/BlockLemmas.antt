@@ -1,23 +1,23 @@
 -- The entries that are read of a block are those that its bytes spell.
-use Rattle.std.proofs.Common.{◌≡◌, ℕ, zero, suc, ◌+◌, ◌-◌, ◌*◌, ◌^◌, ◌<◌, ◌≤◌, Bool, true, false, cond, List, [], ◌∷◌, ◌++◌, length, take, drop, Result, Ok, Err, refl, sym, ◌∙◌, ap, subst, arith, append_assoc}
+use Rattle.std.proofs.Common.{◌≡◌, ℕ, zero, suc, ◌+◌, ◌-◌, ◌<◌, ◌≤◌, List, [], ◌∷◌, ◌++◌, length, take, Result, Ok, refl, sym, ◌∙◌, ap, subst, arith, append_assoc}
 use Rattle.std.specs.List.{AllByRecursion}
 use Rattle.std.proofs.lemmas.List.{length-append}
 use Rattle.std.proofs.Math.Seq.{take-append_seam}
 use Rattle.rk_bytes.specs.declared.model.NumFault.{NumFault}
 use Rattle.rk_bytes.specs.Model.Numbers.{◌>>=◌, part_of, IsVarint32, varint32_at}
-use Rattle.rk_bytes.specs.Model.BlockEntries.{Entry, with_fault, next_entry, entries_after, SpellsEntry, AreEntries, no_more, one_more, IsBlock, block_entries}
-use Rattle.rk_bytes.proofs.ReadingLemmas.{both_steps, first_step, with_fault_ok, passed, taken, part_of_ok, part_of-append, part_of-within, varint_len, SpellsVarint, varint_at_ok, varint_at-append}
+use Rattle.rk_bytes.specs.Model.BlockEntries.{Entry, with_fault, next_entry, entries_after, SpellsEntry, AreEntries, no_more, one_more}
+use Rattle.rk_bytes.proofs.ReadingLemmas.{both_steps, first_step, with_fault_ok, part_of_ok, part_of-append, part_of-within, varint_len, varint_at_ok, varint_at-append}
 
 -- numbers that are bytes
-abbrev AreBytes : List ℕ → Type 0
+abbrev pub AreBytes : List ℕ → Type 0
 AreBytes bytes = AllByRecursion (λ b. b < 256) bytes
 
-rest_of_bytes : (part rest : List ℕ) → AreBytes (part ++ rest) → AreBytes rest
+pub rest_of_bytes : (part rest : List ℕ) → AreBytes (part ++ rest) → AreBytes rest
 rest_of_bytes [] rest are = are
 rest_of_bytes (b ∷ part) rest are = rest_of_bytes part rest are.1
 
 -- what follows a part of bytes is bytes
-bytes_after : (bytes part rest : List ℕ) → AreBytes bytes → bytes ≡ part ++ rest → AreBytes rest
+pub bytes_after : (bytes part rest : List ℕ) → AreBytes bytes → bytes ≡ part ++ rest → AreBytes rest
 bytes_after bytes part rest are e = rest_of_bytes part rest (subst (λ bytes. AreBytes bytes) e are)
 
 varint32_ok : (bytes : List ℕ) (r : ℕ × List ℕ) → AreBytes bytes → varint32_at bytes ≡ Ok r → (part : List ℕ) × (bytes ≡ part ++ r.1) × IsVarint32 part r.0 × AreBytes r.1
@@ -53,9 +53,19 @@ next_entry_steps len before bytes r e =
     both_steps (part_of rest_len.0 value_len.1) _ r e4 λ rest rest_read e5.
     both_steps (part_of value_len.0 rest.1) _ r e5 λ value value_read e6.
     record {
-      shared = shared; rest_len = rest_len; value_len = value_len; front = front; rest = rest; value = value;
-      shared_read = shared_read; rest_len_read = rest_len_read; value_len_read = value_len_read;
-      front_read = front_read; rest_read = rest_read; value_read = value_read; is = cc;
+      shared = shared;
+      rest_len = rest_len;
+      value_len = value_len;
+      front = front;
+      rest = rest;
+      value = value;
+      shared_read = shared_read;
+      rest_len_read = rest_len_read;
+      value_len_read = value_len_read;
+      front_read = front_read;
+      rest_read = rest_read;
+      value_read = value_read;
+      is = cc;
     }
 
 -- five parts in a row, and what follows them
@@ -92,7 +102,10 @@ spelled_by place before bytes r are s =
       whole = in_a_row bytes shared_len rest_len value_len s.rest.0 s.value.0 s.value.1 s.shared.1 s.rest_len.1 s.value_len.1 s.rest.1 w1 w2 w3 w4 w5;
       place_is = refl;
       spells = record {
-        shared_len = shared_len; rest_len = rest_len; value_len = value_len; rest = s.rest.0;
+        shared_len = shared_len;
+        rest_len = rest_len;
+        value_len = value_len;
+        rest = s.rest.0;
         spelled = refl;
         shares = shares;
         rests = subst (λ n. IsVarint32 rest_len n) (sym len4) rests;
@@ -113,13 +126,13 @@ next_entry-spelled len before part rest entry s place =
     let whole : part ++ rest ≡ s.shared_len ++ (s.rest_len ++ (s.value_len ++ (s.rest ++ (entry.value ++ rest)))) = ap (λ x. x ++ rest) s.spelled ∙ regroup s.shared_len s.rest_len s.value_len s.rest entry.value rest in
     let shared_read : varint32_at (part ++ rest) ≡ Ok (entry.shared, s.rest_len ++ (s.value_len ++ (s.rest ++ (entry.value ++ rest)))) = ap varint32_at whole ∙ varint32-append s.shared_len _ entry.shared s.shares in
     ap (with_fault _) (
-      first_step (varint32_at (part ++ rest)) _ _ shared_read
-      ∙ first_step _ _ _ (varint32-append s.rest_len _ (length s.rest) s.rests)
-      ∙ first_step _ _ _ (varint32-append s.value_len _ (length entry.value) s.holds)
-      ∙ first_step _ _ _ (part_of-within entry.shared before.key s.within)
-      ∙ first_step _ _ _ (part_of-append s.rest (entry.value ++ rest))
-      ∙ first_step _ _ _ (part_of-append entry.value rest)
-      ∙ ap (λ (e : Entry (List ℕ)). let r : Result (Entry (List ℕ) × List ℕ) NumFault = Ok (e, rest) in r) (with_own entry (len - length (part ++ rest)) _ place s.key))
+    first_step (varint32_at (part ++ rest)) _ _ shared_read
+    ∙ first_step _ _ _ (varint32-append s.rest_len _ (length s.rest) s.rests)
+    ∙ first_step _ _ _ (varint32-append s.value_len _ (length entry.value) s.holds)
+    ∙ first_step _ _ _ (part_of-within entry.shared before.key s.within)
+    ∙ first_step _ _ _ (part_of-append s.rest (entry.value ++ rest))
+    ∙ first_step _ _ _ (part_of-append entry.value rest)
+    ∙ ap (λ (e : Entry (List ℕ)). let r : Result (Entry (List ℕ) × List ℕ) NumFault = Ok (e, rest) in r) (with_own entry (len - length (part ++ rest)) _ place s.key))
 
 -- an entry takes a byte at least
 some_bytes : (before part : List ℕ) (entry : Entry (List ℕ)) → SpellsEntry before part entry → 1 ≤ length part
@@ -133,7 +146,7 @@ entries_after-more next n before [] some = absurd (omega arith)
 entries_after-more next n before (b ∷ bytes) some = refl
 
 -- the entries that are read are spelled
-entries_ok : (n len place : ℕ) (before : Entry (List ℕ)) (bytes : List ℕ) (entries : List (Entry (List ℕ))) → AreBytes bytes → length bytes ≤ n → len ≡ place + length bytes → entries_after (next_entry len) n before bytes ≡ Ok entries → AreEntries place before.key bytes entries
+pub entries_ok : (n len place : ℕ) (before : Entry (List ℕ)) (bytes : List ℕ) (entries : List (Entry (List ℕ))) → AreBytes bytes → length bytes ≤ n → len ≡ place + length bytes → entries_after (next_entry len) n before bytes ≡ Ok entries → AreEntries place before.key bytes entries
 unfolding entries_after
 entries_ok n len place before [] entries are few is e = let none : [] ≡ entries = cc in subst (λ entries. AreEntries place before.key [] entries) none no_more
 entries_ok zero len place before (b ∷ bytes) entries are few is e = absurd (omega arith)
@@ -145,11 +158,11 @@ entries_ok (suc n) len place before (b ∷ bytes) entries are few is e =
     let lens : length (b ∷ bytes) ≡ length s.part + length r.1 = ap length s.whole ∙ length-append s.part r.1 in
     let whole : r.0 ∷ more ≡ entries = cc in
     subst (λ entries. AreEntries place before.key (b ∷ bytes) entries) whole
-      (one_more s.whole (omega (arith, s.place_is)) s.spells
-        (entries_ok n len (place + length s.part) r.0 r.1 more (bytes_after (b ∷ bytes) s.part r.1 are s.whole) (omega arith) (omega arith) more_read))
+    (one_more s.whole (omega (arith, s.place_is)) s.spells
+    (entries_ok n len (place + length s.part) r.0 r.1 more (bytes_after (b ∷ bytes) s.part r.1 are s.whole) (omega arith) (omega arith) more_read))
 
 -- the entries that are spelled are read
-entries-spelled : (n len place : ℕ) (before : Entry (List ℕ)) (key bytes : List ℕ) (entries : List (Entry (List ℕ))) → length bytes ≤ n → len ≡ place + length bytes → before.key ≡ key → AreEntries place key bytes entries → entries_after (next_entry len) n before bytes ≡ Ok entries
+pub entries-spelled : (n len place : ℕ) (before : Entry (List ℕ)) (key bytes : List ℕ) (entries : List (Entry (List ℕ))) → length bytes ≤ n → len ≡ place + length bytes → before.key ≡ key → AreEntries place key bytes entries → entries_after (next_entry len) n before bytes ≡ Ok entries
 unfolding entries_after
 entries-spelled n len place before key bytes entries few is key_is no_more = refl
 entries-spelled zero len place before key bytes entries few is key_is (one_more {spelled = part} {rest = rest} {entry = entry} whole place_is s more) =
@@ -158,7 +171,7 @@ entries-spelled (suc n) len place before key bytes entries few is key_is (one_mo
     let some = some_bytes key part entry s in
     let lens : length bytes ≡ length part + length rest = ap length whole ∙ length-append part rest in
     let read : next_entry len before bytes ≡ Ok (entry, rest) =
-      ap (next_entry len before) whole ∙ next_entry-spelled len before part rest entry (subst (λ k. SpellsEntry k part entry) (sym key_is) s) (omega (arith, length-append part rest)) in
+    ap (next_entry len before) whole ∙ next_entry-spelled len before part rest entry (subst (λ k. SpellsEntry k part entry) (sym key_is) s) (omega (arith, length-append part rest)) in
     entries_after-more (next_entry len) n before bytes (omega arith)
     ∙ first_step (next_entry len before bytes) _ _ read
     ∙ first_step _ _ after (entries-spelled n len (place + length part) entry entry.key rest after (omega arith) (omega arith) refl more)

@@ -1,2 +1,4 @@
 pub mod ReadingLemmas
 pub mod BlockLemmas
+pub mod RestartLemmas
+pub mod BlockLaw

@@ -1,6 +1,6 @@
 -- What a reading gives is what its bytes spell.
-use Rattle.std.specs.Prelude.{nat_lt, nat_le, take_while}
-use Rattle.std.proofs.Common.{◌≡◌, ℕ, suc, ◌+◌, ◌*◌, ◌^◌, ◌<◌, ◌≤◌, Bool, true, false, cond, List, [], ◌∷◌, ◌++◌, length, take, drop, Result, Ok, Err, refl, sym, ◌∙◌, add-one, ap, subst, arith, inl, inr}
+use Rattle.std.specs.Prelude.{nat_lt, nat_le}
+use Rattle.std.proofs.Common.{◌≡◌, ℕ, suc, ◌+◌, ◌^◌, ◌<◌, ◌≤◌, Bool, true, false, cond, List, [], ◌∷◌, ◌++◌, length, take, drop, Result, Ok, Err, refl, sym, ◌∙◌, add-one, ap, subst, arith, inl, inr}
 use Rattle.std.specs.List.{AllByRecursion}
 use Rattle.std.proofs.lemmas.Bool.{lt-ltb, ltb-true, le-ltb, ltb-false, le-leb, lt-leb, cases_lt}
 use Rattle.std.proofs.lemmas.List.{take-append-drop, length-take-le, length-append}
@@ -63,8 +63,8 @@ varint_front (b ∷ bytes) are h =
     elim (cases_lt b 128) [
       | inl low ↦ rw (high_none b bytes low) low
       | inr high ↦
-        let enough : suc (high_count bytes) ≤ length bytes = omega (arith, high_more b bytes high) in
-        rw (high_more b bytes high) (one_more_group b _ high are.0 (varint_front bytes are.1 enough))
+          let enough : suc (high_count bytes) ≤ length bytes = omega (arith, high_more b bytes high) in
+          rw (high_more b bytes high) (one_more_group b _ high are.0 (varint_front bytes are.1 enough))
     ]
 
 high_count-varint : (part rest : List ℕ) → IsVarint part → suc (high_count (part ++ rest)) ≡ length part
@@ -90,13 +90,16 @@ varint_at_ok most bits bytes r are e =
     let whole = passed (nat_lt (length bytes) len) _ _ r short.1 in
     let fitting = taken (nat_lt (groups_value (take len bytes)) (2 ^ bits)) _ _ r whole.1 in
     let enough : len ≤ length bytes = ltb-false (length bytes) len whole.0 in
-    subst (λ (r : ℕ × List ℕ). (part : List ℕ) × (bytes ≡ part ++ r.1) × SpellsVarint most bits part r.0) fitting.1
-      (take len bytes, sym (take-append-drop len bytes), record {
+    subst (λ (r : ℕ × List ℕ). (part : List ℕ) × (bytes ≡ part ++ r.1) × SpellsVarint most bits part r.0) fitting.1 (
+      take len bytes,
+      sym (take-append-drop len bytes),
+      record {
         groups = rw add-one (varint_front bytes are (omega arith));
-        short = rw length-take-le (ltb-false most len short.0);
+        short = rw (length-take-le len bytes enough) (ltb-false most len short.0);
         fits = ltb-true (groups_value (take len bytes)) (2 ^ bits) fitting.0;
         value = refl;
-      })
+      },
+    )
 
 pub varint_at-append : (most bits : ℕ) (part rest : List ℕ) (n : ℕ) → SpellsVarint most bits part n → varint_at most bits (part ++ rest) ≡ Ok (n, rest)
 varint_at-append most bits part rest n v =

@@ -1,7 +1,7 @@
 -- The entries of a block, and the handles of an index block (RocksDB's wiki, "Rocksdb BlockBasedTable
 -- Format"; table/block_based/block_builder.cc, table/format.cc). The tests and their order are this
 -- project's own rule.
-use Rattle.std.specs.Prelude.{◌≡◌, ℕ, zero, suc, ◌+◌, ◌-◌, ◌*◌, ◌^◌, ◌<◌, ◌≤◌, ◌==◌, IsTrue, ℤ, pos, negsuc, ◌+ℤ◌, Bool, true, false, ◌&&◌, ◌||◌, List, [], ◌∷◌, ◌++◌, length, map, flat_map, take, drop, slice_index, nat_lt, nat_le, if◌then◌else◌, Option, Some, None, option_map, ok_or, Result, Ok, Err, bytes_eq, codes, refl}
+use Rattle.std.specs.Prelude.{◌≡◌, ℕ, zero, suc, ◌+◌, ◌-◌, ◌*◌, ◌^◌, ◌<◌, ◌≤◌, ◌==◌, IsTrue, ℤ, pos, negsuc, ◌+ℤ◌, Bool, true, false, ◌&&◌, ◌||◌, List, [], ◌∷◌, ◌++◌, length, map, flat_map, take, drop, nat_lt, nat_le, if◌then◌else◌, Option, Some, None, option_map, ok_or, Result, Ok, Err, bytes_eq, codes, refl}
 use Rattle.std.specs.List.{list_any, list_all, AllByRecursion}
 use Rattle.rk_bytes.specs.declared.model.BlockFault.{BlockFault}
 use Rattle.rk_bytes.specs.declared.model.BlockFault.TheVariants.{Short, HashIndex, BadRestarts, BadEntry}
