@@ -4,6 +4,8 @@ ghost use Rattle.std.specs.Prelude.{◌≡◌, ◌↔◌, ◌<◌, ◌^◌, ℕ,
 ghost use Rattle.std.specs.List.{AllByRecursion};
 ghost use Rattle.rk_bytes.specs.Model.BlockEntries.{Entry, IsBlock, block_entries};
 
+use crate::{Bytes, Seq};
+
 /// Law: the entries that are read of a block are those that its bytes spell, and there is at most one
 /// list of them.
 pub fn one_block()
@@ -98,6 +100,14 @@ pub struct Handle {
     pub size: u64,
 }
 
+/// Where a data block stands. Its keys are at most the separator.
+#[derive(Debug, Drop)]
+pub struct IndexEntry {
+    /// An internal key, or a user key where the table's properties say so.
+    pub separator: Bytes,
+    pub block: Handle,
+}
+
 /// Why a block isn't one of range deletions.
 #[derive(Clone, Copy, Debug, PartialEq, Eq)]
 pub enum RangeFault {
@@ -105,19 +115,6 @@ pub enum RangeFault {
     Block(BlockFault),
     /// A key isn't the internal key of a range deletion.
     BadKey,
-}
-
-/// How the bytes of a block are summed.
-#[derive(Clone, Copy, Debug, PartialEq, Eq)]
-pub enum SumKind {
-    /// Not at all.
-    NoSum,
-    /// CRC32C, masked.
-    Crc32c,
-    /// XXH32.
-    Xxh32,
-    /// The low half of XXH64.
-    Xxh64,
 }
 
 /// Where a table's parts are found, and how they are summed.
@@ -207,28 +204,94 @@ pub enum TableWhat {
     RecordKind(u8),
 }
 
-/// What a record of a database does.
+/// A property of a table.
+#[derive(Debug, Drop)]
+pub struct Property {
+    pub name: Bytes,
+    pub value: Bytes,
+}
+
+/// A range deletion in a table: of the keys from its start up to its end, the end excluded.
+#[derive(Debug, Drop)]
+pub struct RangeDel {
+    pub start: Bytes,
+    pub end: Bytes,
+    pub sequence: u64,
+}
+
+/// What is known of a good table.
+#[derive(Debug, Drop)]
+pub struct TableRef {
+    /// The column family that it belongs to.
+    pub family: u32,
+    pub family_name: Bytes,
+    /// How many data records it has.
+    pub entries: u64,
+    /// In the order of their block.
+    pub ranges: Seq<RangeDel>,
+    /// In the order of their block.
+    pub properties: Seq<Property>,
+    pub index: Seq<IndexEntry>,
+    /// The separators are user keys.
+    pub user_keys: bool,
+    pub sum: SumKind,
+    /// The least internal key of a record or of a range deletion's start.
+    pub smallest: Option<Bytes>,
+    /// The greatest internal key of a record or at a range deletion's end.
+    pub largest: Option<Bytes>,
+    /// The greatest sequence number of a record or of a range deletion, 0 with none.
+    pub top: u64,
+    /// The footer's place.
+    pub start: u64,
+}
+
+/// How a table's blocks are summed. The number in the footer is the variant's place in this list.
+#[derive(Clone, Copy, Debug, PartialEq, Eq)]
+pub enum SumKind {
+    /// No sum: 0 is stored, and nothing is tested.
+    NoSum,
+    /// CRC32C, masked.
+    Crc32c,
+    /// XXH32 with seed 0.
+    Xxh32,
+    /// The low 32 bits of XXH64 with seed 0.
+    Xxh64,
+}
+
+/// What a record does to its key.
 #[derive(Clone, Copy, Debug, PartialEq, Eq)]
 pub enum Kind {
-    /// Removes a key.
+    /// Deletes the key. Its number is 0.
     Deletion,
-    /// Sets a key's value.
+    /// Puts a value. Its number is 1.
     Value,
-    /// Adds an operand to a key's value.
+    /// Adds an operand for a merge. Its number is 2.
     Merge,
-    /// Removes a key that was set once.
+    /// Deletes a key that was put once. Its number is 7.
     SingleDeletion,
-    /// Removes the keys of a range.
+    /// Deletes the keys from its key up to its end, the end excluded. Its number is 15.
     RangeDeletion,
 }
 
-/// Why bytes are no internal key.
+/// Why an internal key doesn't read.
 #[derive(Clone, Copy, Debug, PartialEq, Eq)]
 pub enum KeyFault {
-    /// There are fewer than eight.
+    /// Fewer than 8 bytes.
     Short,
-    /// The record's kind isn't supported.
+    /// The number of a kind that isn't supported: 16 to 31.
     UnsupportedKind(u8),
-    /// No record is of this kind.
+    /// Any other number that no kind has.
     UnknownKind(u8),
+}
+
+/// What a table or a write batch says of a key, in a column family.
+#[derive(Debug, Drop)]
+pub struct Record {
+    pub family: u32,
+    /// The user key. The start of a range deletion.
+    pub key: Bytes,
+    pub sequence: u64,
+    pub kind: Kind,
+    /// Empty for a deletion. The end of a range deletion.
+    pub value: Bytes,
 }

@@ -10,12 +10,8 @@ use Rattle.rk_bytes.specs.declared.model.IndexFault.TheVariants.{Block, BadHandl
 use Rattle.rk_bytes.specs.declared.model.NumFault.{NumFault}
 use Rattle.rk_bytes.specs.declared.model.NumFault.TheVariants.{TooLarge}
 use Rattle.rk_bytes.specs.declared.model.Handle.{Handle}
+use Rattle.rk_bytes.specs.declared.model.IndexEntry.{IndexEntry}
 use Rattle.rk_bytes.specs.Model.Numbers.{little_endian, fixed_of, IsVarint32, from_zigzag, Read, ◌>>=◌, part_of, varint32_at, varint64_at}
-
--- A value under its key.
-pub record Keyed (V : Type 0) : Type 0 where
-  pub key : List ℕ
-  pub value : V
 
 -- An entry has its place in the block, how many bytes its key shares with the key before, its whole
 -- key and its value.
@@ -24,9 +20,6 @@ pub record Entry (V : Type 0) : Type 0 where
   pub shared : ℕ
   pub key : List ℕ
   pub value : V
-
-abbrev pub keyed : {V : Type 0} → Entry V → Keyed V
-keyed entry = record { key = entry.key; value = entry.value }
 
 -- the same result, with another word for its fault
 abbrev pub with_fault : {A F G : Type 0} → (F → G) → Result A F → Result A G
@@ -178,20 +171,24 @@ next_delta_entry len before bytes = let place = len - length bytes in do
   handle ← with_fault (λ fault. BadHandle) (if key.0.0 == 0 then handle_at key.1 else handle_after before.value key.1)
   Ok (record { place = place; shared = key.0.0; key = key.0.1; value = handle.0 }, handle.1)
 
-abbrev pub delta_handles : List ℕ → Result (List (Keyed Handle)) IndexFault
-delta_handles block = do
-  entries ← block_with Block (record { offset = 0; size = 0 }) next_delta_entry block
-  Ok (map keyed entries)
+abbrev pub delta_handles : List ℕ → Result (List (Entry Handle)) IndexFault
+delta_handles block = block_with Block (record { offset = 0; size = 0 }) next_delta_entry block
 
--- Without delta encoding each value is one whole handle. They are read once the block has passed its tests.
-abbrev pub whole_handles : List ℕ → Result (List (Keyed Handle)) IndexFault
+-- an entry whose value is one whole handle
+abbrev pub with_handle : Entry (List ℕ) → Result (Entry Handle) IndexFault
+with_handle entry = ok_or (option_map (λ handle. record { place = entry.place; shared = entry.shared; key = entry.key; value = handle }) (whole (handle_at entry.value))) BadHandle
+
+-- Without delta encoding the handles are read once the block has passed its tests.
+abbrev pub whole_handles : List ℕ → Result (List (Entry Handle)) IndexFault
 whole_handles block = do
   entries ← with_fault Block (block_entries block)
-  each (λ entry. ok_or (option_map (λ handle. record { key = entry.key; value = handle }) (whole (handle_at entry.value))) BadHandle) entries
+  each with_handle entries
 
--- the separators and the handles of an index
-unfoldable pub index_entries : Bool → List ℕ → Result (List (Keyed Handle)) IndexFault
-index_entries is_delta block = if is_delta then delta_handles block else whole_handles block
+-- the entries of an index block, or the first fault
+unfoldable pub index_entries : Bool → List ℕ → Result (List IndexEntry) IndexFault
+index_entries is_delta block = do
+  entries ← if is_delta then delta_handles block else whole_handles block
+  Ok (map (λ entry. record { separator = entry.key; block = entry.value }) entries)
 
 -- a block of these entries with one restart, at 0
 one_restart : List ℕ → List ℕ
@@ -232,7 +229,7 @@ restarts_within_a_key : block_entries (0 ∷ 1 ∷ 0 ∷ codes "a" ++ 1 ∷ 1 �
 unfolding block_entries entries_after
 restarts_within_a_key = refl
 
-of_whole_handles : index_entries false (one_restart (0 ∷ 1 ∷ 2 ∷ codes "a" ++ 0 ∷ 21 ∷ [])) ≡ Ok (record { key = codes "a"; value = record { offset = 0; size = 21 } } ∷ [])
+of_whole_handles : index_entries false (one_restart (0 ∷ 1 ∷ 2 ∷ codes "a" ++ 0 ∷ 21 ∷ [])) ≡ Ok (record { separator = codes "a"; block = record { offset = 0; size = 21 } } ∷ [])
 unfolding index_entries block_entries entries_after one_restart
 of_whole_handles = refl
 
@@ -242,7 +239,7 @@ more_than_a_handle = refl
 
 -- the second size is 10 less than the first
 of_delta_handles : index_entries true (one_restart (0 ∷ 5 ∷ codes "apple" ++ 0 ∷ 100 ∷ 2 ∷ 5 ∷ codes "ricot" ++ 19 ∷ []))
-    ≡ Ok (record { key = codes "apple"; value = record { offset = 0; size = 100 } } ∷ record { key = codes "apricot"; value = record { offset = 105; size = 90 } } ∷ [])
+    ≡ Ok (record { separator = codes "apple"; block = record { offset = 0; size = 100 } } ∷ record { separator = codes "apricot"; block = record { offset = 105; size = 90 } } ∷ [])
 unfolding index_entries entries_after one_restart
 of_delta_handles = refl
 

@@ -108,9 +108,9 @@ with_a_byte_less = refl
 
 -- a block of one byte, with the type byte of Snappy
 checksum_before_compression : checked_block (7 ∷ 1 ∷ 0 ∷ 0 ∷ 0 ∷ 0 ∷ []) (record { offset = 0; size = 1 }) Crc32c ≡ Err Checksum
-unfolding checked_block block_sum crc32c crc_bytes crc_bits crc_bit
+unfolding checked_block crc32c crc_bytes crc_bits crc_bit
 checksum_before_compression = refl
 
 unsummed_and_compressed : checked_block (7 ∷ 1 ∷ 0 ∷ 0 ∷ 0 ∷ 0 ∷ []) (record { offset = 0; size = 1 }) NoSum ≡ Err (Compressed 1)
-unfolding checked_block block_sum
+unfolding checked_block
 unsummed_and_compressed = refl

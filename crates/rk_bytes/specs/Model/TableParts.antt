@@ -1,6 +1,6 @@
--- Internal keys (db/dbformat.h) and the checksums of blocks (table/format.cc). These stand here until
--- InternalKey and Checksums have them.
-use Rattle.std.specs.Prelude.{ℕ, ◌+◌, ◌-◌, ◌*◌, ◌/◌, ◌%◌, ◌==◌, ◌&&◌, List, [], ◌∷◌, ◌++◌, length, take, drop, nat_lt, nat_le, if◌then◌else◌, Result, Ok, Err}
+-- Internal keys (db/dbformat.h) and the checksums of blocks (table/format.cc). They stand here until
+-- InternalKey and Checksums have them, under the same names.
+use Rattle.std.specs.Prelude.{ℕ, ◌+◌, ◌-◌, ◌*◌, ◌/◌, ◌%◌, ◌^◌, ◌==◌, ◌&&◌, List, [], ◌∷◌, ◌++◌, length, take, drop, find, nat_lt, nat_le, if◌then◌else◌, Option, option_map, ok_or, Result, Err, codes}
 use Rattle.std.specs.declared.cmp.Ordering.{Ordering}
 use Rattle.std.specs.Ordering.{nat_cmp, ordering_then}
 use Rattle.std.specs.Cmp.Lexicographic.{slice_cmp}
@@ -13,37 +13,52 @@ use Rattle.rk_bytes.specs.declared.model.KeyFault.TheVariants.{Short, Unsupporte
 use Rattle.rk_bytes.specs.Model.Numbers.{little_endian, fixed_of}
 use Rattle.rk_bytes.specs.Model.Checksums.{crc32c, mask}
 
--- the user key is all but the last eight bytes; these are the sequence times 256, and the kind
-abbrev pub user_of : List ℕ → List ℕ
-user_of key = take (length key - 8) key
+abbrev pub kind_number : Kind → ℕ
+kind_number Deletion = 0
+kind_number Value = 1
+kind_number Merge = 2
+kind_number SingleDeletion = 7
+kind_number RangeDeletion = 15
 
-abbrev pub packed_of : List ℕ → ℕ
-packed_of key = little_endian (drop (length key - 8) key)
+abbrev pub kind_of : ℕ → Option Kind
+kind_of number = find (λ kind. kind_number kind == number) (Deletion ∷ Value ∷ Merge ∷ SingleDeletion ∷ RangeDeletion ∷ [])
 
-abbrev pub sequence_of : List ℕ → ℕ
-sequence_of key = packed_of key / 256
+abbrev pub top_sequence : ℕ
+top_sequence = 2 ^ 56 - 1
 
-abbrev pub kind_of : ℕ → Result Kind KeyFault
-kind_of n =
-    if n == 0 then Ok Deletion
-    else (if n == 1 then Ok Value
-    else (if n == 2 then Ok Merge
-    else (if n == 7 then Ok SingleDeletion
-    else (if n == 15 then Ok RangeDeletion
-    else (if nat_le 16 n && nat_lt n 32 then Err (UnsupportedKind n) else Err (UnknownKind n))))))
+unfoldable pub internal_key : List ℕ → ℕ → Kind → List ℕ
+internal_key user sequence kind = user ++ fixed_of 8 (sequence * 256 + kind_number kind)
 
--- the kind of an internal key
-abbrev pub key_kind : List ℕ → Result Kind KeyFault
-key_kind key = if nat_lt (length key) 8 then Err Short else kind_of (packed_of key % 256)
+-- the user key and the number after it, of a key of at least 8 bytes
+abbrev pub user_key : List ℕ → List ℕ
+user_key key = take (length key - 8) key
 
-abbrev pub internal_key : List ℕ → ℕ → ℕ → List ℕ
-internal_key user sequence kind = user ++ fixed_of 8 (sequence * 256 + kind)
+abbrev pub packed : List ℕ → ℕ
+packed key = little_endian (drop (length key - 8) key)
 
--- user keys rising by their bytes, then the packed numbers falling
+abbrev pub bytewise_name : List ℕ
+bytewise_name = codes "leveldb.BytewiseComparator"
+
+-- User keys rise by their bytes. Of one user key the numbers fall.
 abbrev pub key_cmp : List ℕ → List ℕ → Ordering
-key_cmp a b = ordering_then (slice_cmp nat_cmp (user_of a) (user_of b)) (nat_cmp (packed_of b) (packed_of a))
+key_cmp a b = ordering_then (slice_cmp nat_cmp (user_key a) (user_key b)) (nat_cmp (packed b) (packed a))
 
--- what a trailer stores of its block and type byte
-unfoldable pub block_sum : SumKind → List ℕ → ℕ → ℕ
+pub record KeyParts : Type 0 where
+  pub user : List ℕ
+  pub sequence : ℕ
+  pub kind : Kind
+
+-- 16 to 31 are the numbers of kinds that aren't supported
+abbrev pub without_kind : ℕ → KeyFault
+without_kind number = if nat_le 16 number && nat_le number 31 then UnsupportedKind number else UnknownKind number
+
+abbrev pub key_parts : List ℕ → Result KeyParts KeyFault
+key_parts key =
+    let number = packed key % 256 in
+    if nat_lt (length key) 8 then Err Short
+    else ok_or (option_map (λ kind. record { user = user_key key; sequence = packed key / 256; kind = kind }) (kind_of number)) (without_kind number)
+
+-- what is stored after a block: the sum of its bytes and of its type's byte (of XXH32 and XXH64 not yet)
+abbrev pub block_sum : SumKind → List ℕ → ℕ → ℕ
 block_sum Crc32c block type_byte = mask (crc32c (block ++ type_byte ∷ []))
 block_sum _ block type_byte = 0
