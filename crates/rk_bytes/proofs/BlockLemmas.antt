@@ -1,142 +1,22 @@
--- The entries that are read of a block are those that its bytes spell.
-use Rattle.std.proofs.Common.{◌≡◌, ℕ, zero, suc, ◌+◌, ◌-◌, ◌<◌, ◌≤◌, List, [], ◌∷◌, ◌++◌, length, take, Result, Ok, refl, sym, ◌∙◌, ap, subst, arith, append_assoc}
-use Rattle.std.specs.List.{AllByRecursion}
+-- The entries that are read are those that are spelled, in each form of entry.
+use Rattle.std.proofs.Common.{◌≡◌, ℕ, zero, suc, ◌+◌, ◌-◌, ◌≤◌, List, [], ◌∷◌, ◌++◌, length, Result, Ok, refl, ◌∙◌, ap, subst, arith}
 use Rattle.std.proofs.lemmas.List.{length-append}
-use Rattle.std.proofs.Math.Seq.{take-append_seam}
-use Rattle.rk_bytes.specs.declared.model.NumFault.{NumFault}
-use Rattle.rk_bytes.specs.Model.Numbers.{◌>>=◌, part_of, IsVarint32, varint32_at}
-use Rattle.rk_bytes.specs.Model.BlockEntries.{Entry, with_fault, next_entry, entries_after, SpellsEntry, AreEntries, no_more, one_more}
-use Rattle.rk_bytes.proofs.ReadingLemmas.{both_steps, first_step, with_fault_ok, part_of_ok, part_of-append, part_of-within, varint_len, varint_at_ok, varint_at-append}
-
--- numbers that are bytes
-abbrev pub AreBytes : List ℕ → Type 0
-AreBytes bytes = AllByRecursion (λ b. b < 256) bytes
-
-pub rest_of_bytes : (part rest : List ℕ) → AreBytes (part ++ rest) → AreBytes rest
-rest_of_bytes [] rest are = are
-rest_of_bytes (b ∷ part) rest are = rest_of_bytes part rest are.1
-
--- what follows a part of bytes is bytes
-pub bytes_after : (bytes part rest : List ℕ) → AreBytes bytes → bytes ≡ part ++ rest → AreBytes rest
-bytes_after bytes part rest are e = rest_of_bytes part rest (subst (λ bytes. AreBytes bytes) e are)
-
-varint32_ok : (bytes : List ℕ) (r : ℕ × List ℕ) → AreBytes bytes → varint32_at bytes ≡ Ok r → (part : List ℕ) × (bytes ≡ part ++ r.1) × IsVarint32 part r.0 × AreBytes r.1
-varint32_ok bytes r are e =
-    let (part, whole, v) = varint_at_ok 5 32 bytes r are e in
-    (part, whole, record { groups = v.groups; short = v.short; fits = v.fits; value = v.value }, bytes_after bytes part r.1 are whole)
-
-varint32-append : (part rest : List ℕ) (n : ℕ) → IsVarint32 part n → varint32_at (part ++ rest) ≡ Ok (n, rest)
-varint32-append part rest n v = varint_at-append 5 32 part rest n (record { groups = v.groups; short = v.short; fits = v.fits; value = v.value })
-
--- what the steps of an entry's reading give
-record Steps (place : ℕ) (before bytes : List ℕ) (r : Entry (List ℕ) × List ℕ) : Type 0 where
-  shared : ℕ × List ℕ
-  rest_len : ℕ × List ℕ
-  value_len : ℕ × List ℕ
-  front : List ℕ × List ℕ
-  rest : List ℕ × List ℕ
-  value : List ℕ × List ℕ
-  shared_read : varint32_at bytes ≡ Ok shared
-  rest_len_read : varint32_at shared.1 ≡ Ok rest_len
-  value_len_read : varint32_at rest_len.1 ≡ Ok value_len
-  front_read : part_of shared.0 before ≡ Ok front
-  rest_read : part_of rest_len.0 value_len.1 ≡ Ok rest
-  value_read : part_of value_len.0 rest.1 ≡ Ok value
-  is : (record { place = place; shared = shared.0; key = front.0 ++ rest.0; value = value.0 }, value.1) ≡ r
-
-next_entry_steps : (len : ℕ) (before : Entry (List ℕ)) (bytes : List ℕ) (r : Entry (List ℕ) × List ℕ) → next_entry len before bytes ≡ Ok r → Steps (len - length bytes) before.key bytes r
-next_entry_steps len before bytes r e =
-    both_steps (varint32_at bytes) _ r (with_fault_ok _ _ r e) λ shared shared_read e1.
-    both_steps (varint32_at shared.1) _ r e1 λ rest_len rest_len_read e2.
-    both_steps (varint32_at rest_len.1) _ r e2 λ value_len value_len_read e3.
-    both_steps (part_of shared.0 before.key) _ r e3 λ front front_read e4.
-    both_steps (part_of rest_len.0 value_len.1) _ r e4 λ rest rest_read e5.
-    both_steps (part_of value_len.0 rest.1) _ r e5 λ value value_read e6.
-    record {
-      shared = shared;
-      rest_len = rest_len;
-      value_len = value_len;
-      front = front;
-      rest = rest;
-      value = value;
-      shared_read = shared_read;
-      rest_len_read = rest_len_read;
-      value_len_read = value_len_read;
-      front_read = front_read;
-      rest_read = rest_read;
-      value_read = value_read;
-      is = cc;
-    }
-
--- five parts in a row, and what follows them
-regroup : (a b c d e rest : List ℕ) → (a ++ (b ++ (c ++ (d ++ e)))) ++ rest ≡ a ++ (b ++ (c ++ (d ++ (e ++ rest))))
-regroup a b c d e rest = simp append_assoc
-
--- each part with what follows it
-in_a_row : (bytes a b c d e rest b1 b2 b3 b4 : List ℕ) → bytes ≡ a ++ b1 → b1 ≡ b ++ b2 → b2 ≡ c ++ b3 → b3 ≡ d ++ b4 → b4 ≡ e ++ rest → bytes ≡ (a ++ (b ++ (c ++ (d ++ e)))) ++ rest
-in_a_row bytes a b c d e rest b1 b2 b3 b4 w1 w2 w3 w4 w5 =
-    w1 ∙ ap (λ x. a ++ x) (w2 ∙ ap (λ x. b ++ x) (w3 ∙ ap (λ x. c ++ x) (w4 ∙ ap (λ x. d ++ x) w5))) ∙ sym (regroup a b c d e rest)
-
-front_of : (whole front rest : List ℕ) (n : ℕ) → whole ≡ front ++ rest → length front ≡ n → (n ≤ length whole) × (front ≡ take n whole)
-front_of whole front rest n is len =
-    (omega (arith, ap length is, length-append front rest), subst (λ n. front ≡ take n whole) len (subst (λ whole. front ≡ take (length front) whole) (sym is) (sym (take-append_seam front rest))))
+use Rattle.rk_bytes.specs.Model.Numbers.{◌>>=◌}
+use Rattle.rk_bytes.specs.Model.BlockEntries.{Entry, entries_after, Spelling, AreEntries, no_more, one_more}
+use Rattle.rk_bytes.proofs.ReadingLemmas.{both_steps, first_step, AreBytes, bytes_after}
 
 -- the bytes that spell an entry, and those after it
-record Spelled (place : ℕ) (before bytes : List ℕ) (r : Entry (List ℕ) × List ℕ) : Type 0 where
-  part : List ℕ
-  whole : bytes ≡ part ++ r.1
-  place_is : r.0.place ≡ place
-  spells : SpellsEntry before part r.0
+pub record Spelled {V : Type 0} (Spells : Spelling V) (place : ℕ) (before : Entry V) (bytes : List ℕ) (r : Entry V × List ℕ) : Type 0 where
+  pub part : List ℕ
+  pub whole : bytes ≡ part ++ r.1
+  pub place_is : r.0.place ≡ place
+  pub spells : Spells before part r.0
 
-spelled_by : (place : ℕ) (before bytes : List ℕ) (r : Entry (List ℕ) × List ℕ) → AreBytes bytes → Steps place before bytes r → Spelled place before bytes r
-spelled_by place before bytes r are s =
-    let (shared_len, w1, shares, are1) = varint32_ok bytes s.shared are s.shared_read in
-    let (rest_len, w2, rests, are2) = varint32_ok s.shared.1 s.rest_len are1 s.rest_len_read in
-    let (value_len, w3, holds, are3) = varint32_ok s.rest_len.1 s.value_len are2 s.value_len_read in
-    let (w0, len0) = part_of_ok s.shared.0 before s.front s.front_read in
-    let (within, front) = front_of before s.front.0 s.front.1 s.shared.0 w0 len0 in
-    let (w4, len4) = part_of_ok s.rest_len.0 s.value_len.1 s.rest s.rest_read in
-    let (w5, len5) = part_of_ok s.value_len.0 s.rest.1 s.value s.value_read in
-    subst (λ (r : Entry (List ℕ) × List ℕ). Spelled place before bytes r) s.is (record {
-      part = shared_len ++ (rest_len ++ (value_len ++ (s.rest.0 ++ s.value.0)));
-      whole = in_a_row bytes shared_len rest_len value_len s.rest.0 s.value.0 s.value.1 s.shared.1 s.rest_len.1 s.value_len.1 s.rest.1 w1 w2 w3 w4 w5;
-      place_is = refl;
-      spells = record {
-        shared_len = shared_len;
-        rest_len = rest_len;
-        value_len = value_len;
-        rest = s.rest.0;
-        spelled = refl;
-        shares = shares;
-        rests = subst (λ n. IsVarint32 rest_len n) (sym len4) rests;
-        holds = subst (λ n. IsVarint32 value_len n) (sym len5) holds;
-        within = within;
-        key = ap (λ x. x ++ s.rest.0) front;
-      };
-    })
-
--- an entry with a place and a key that are its own
-with_own : (entry : Entry (List ℕ)) (place : ℕ) (key : List ℕ) → entry.place ≡ place → entry.key ≡ key → record { place = place; shared = entry.shared; key = key; value = entry.value } ≡ entry
-with_own entry place key place_is key_is =
-    ap (λ (p : ℕ). let own : Entry (List ℕ) = record { place = p; shared = entry.shared; key = key; value = entry.value } in own) (sym place_is)
-    ∙ ap (λ (k : List ℕ). let own : Entry (List ℕ) = record { place = entry.place; shared = entry.shared; key = k; value = entry.value } in own) (sym key_is)
-
-next_entry-spelled : (len : ℕ) (before : Entry (List ℕ)) (part rest : List ℕ) (entry : Entry (List ℕ)) → SpellsEntry before.key part entry → entry.place ≡ len - length (part ++ rest) → next_entry len before (part ++ rest) ≡ Ok (entry, rest)
-next_entry-spelled len before part rest entry s place =
-    let whole : part ++ rest ≡ s.shared_len ++ (s.rest_len ++ (s.value_len ++ (s.rest ++ (entry.value ++ rest)))) = ap (λ x. x ++ rest) s.spelled ∙ regroup s.shared_len s.rest_len s.value_len s.rest entry.value rest in
-    let shared_read : varint32_at (part ++ rest) ≡ Ok (entry.shared, s.rest_len ++ (s.value_len ++ (s.rest ++ (entry.value ++ rest)))) = ap varint32_at whole ∙ varint32-append s.shared_len _ entry.shared s.shares in
-    ap (with_fault _) (
-    first_step (varint32_at (part ++ rest)) _ _ shared_read
-    ∙ first_step _ _ _ (varint32-append s.rest_len _ (length s.rest) s.rests)
-    ∙ first_step _ _ _ (varint32-append s.value_len _ (length entry.value) s.holds)
-    ∙ first_step _ _ _ (part_of-within entry.shared before.key s.within)
-    ∙ first_step _ _ _ (part_of-append s.rest (entry.value ++ rest))
-    ∙ first_step _ _ _ (part_of-append entry.value rest)
-    ∙ ap (λ (e : Entry (List ℕ)). let r : Result (Entry (List ℕ) × List ℕ) NumFault = Ok (e, rest) in r) (with_own entry (len - length (part ++ rest)) _ place s.key))
-
--- an entry takes a byte at least
-some_bytes : (before part : List ℕ) (entry : Entry (List ℕ)) → SpellsEntry before part entry → 1 ≤ length part
-some_bytes before part entry s = omega (arith, ap length s.spelled, length-append s.shared_len (s.rest_len ++ (s.value_len ++ (s.rest ++ entry.value))), varint_len s.shared_len s.shares.groups)
+-- In a form of entries what is read is spelled, what is spelled is read, and an entry takes a byte at least.
+pub record Form {V F : Type 0} (next : ℕ → Entry V → List ℕ → Result (Entry V × List ℕ) F) (Spells : Spelling V) : Type 0 where
+  pub reads : (len : ℕ) (before : Entry V) (bytes : List ℕ) (r : Entry V × List ℕ) → AreBytes bytes → next len before bytes ≡ Ok r → Spelled Spells (len - length bytes) before bytes r
+  pub spelled : (len : ℕ) (before : Entry V) (part rest : List ℕ) (entry : Entry V) → Spells before part entry → entry.place ≡ len - length (part ++ rest) → next len before (part ++ rest) ≡ Ok (entry, rest)
+  pub some : (before : Entry V) (part : List ℕ) (entry : Entry V) → Spells before part entry → 1 ≤ length part
 
 -- a step of the reading of entries
 pub entries_after-more : {V F : Type 0} (next : Entry V → List ℕ → Result (Entry V × List ℕ) F) (n : ℕ) (before : Entry V) (bytes : List ℕ) → 1 ≤ length bytes
@@ -146,32 +26,32 @@ entries_after-more next n before [] some = absurd (omega arith)
 entries_after-more next n before (b ∷ bytes) some = refl
 
 -- the entries that are read are spelled
-pub entries_ok : (n len place : ℕ) (before : Entry (List ℕ)) (bytes : List ℕ) (entries : List (Entry (List ℕ))) → AreBytes bytes → length bytes ≤ n → len ≡ place + length bytes → entries_after (next_entry len) n before bytes ≡ Ok entries → AreEntries place before.key bytes entries
+pub entries_ok : {V F : Type 0} (next : ℕ → Entry V → List ℕ → Result (Entry V × List ℕ) F) (Spells : Spelling V) → Form next Spells → (n len place : ℕ) (before : Entry V) (bytes : List ℕ) (entries : List (Entry V)) → AreBytes bytes → length bytes ≤ n → len ≡ place + length bytes → entries_after (next len) n before bytes ≡ Ok entries → AreEntries Spells place before bytes entries
 unfolding entries_after
-entries_ok n len place before [] entries are few is e = let none : [] ≡ entries = cc in subst (λ entries. AreEntries place before.key [] entries) none no_more
-entries_ok zero len place before (b ∷ bytes) entries are few is e = absurd (omega arith)
-entries_ok (suc n) len place before (b ∷ bytes) entries are few is e =
-    both_steps (next_entry len before (b ∷ bytes)) _ entries e λ r read e1.
-    both_steps (entries_after (next_entry len) n r.0 r.1) _ entries e1 λ more more_read e2.
-    let s = spelled_by (len - length (b ∷ bytes)) before.key (b ∷ bytes) r are (next_entry_steps len before (b ∷ bytes) r read) in
-    let some = some_bytes before.key s.part r.0 s.spells in
+entries_ok next Spells form n len place before [] entries are few is e = let none : [] ≡ entries = cc in subst (λ entries. AreEntries Spells place before [] entries) none no_more
+entries_ok next Spells form zero len place before (b ∷ bytes) entries are few is e = absurd (omega arith)
+entries_ok next Spells form (suc n) len place before (b ∷ bytes) entries are few is e =
+    both_steps (next len before (b ∷ bytes)) _ entries e λ r read e1.
+    both_steps (entries_after (next len) n r.0 r.1) _ entries e1 λ more more_read e2.
+    let s = form.reads len before (b ∷ bytes) r are read in
+    let some = form.some before s.part r.0 s.spells in
     let lens : length (b ∷ bytes) ≡ length s.part + length r.1 = ap length s.whole ∙ length-append s.part r.1 in
     let whole : r.0 ∷ more ≡ entries = cc in
-    subst (λ entries. AreEntries place before.key (b ∷ bytes) entries) whole
+    subst (λ entries. AreEntries Spells place before (b ∷ bytes) entries) whole
     (one_more s.whole (omega (arith, s.place_is)) s.spells
-    (entries_ok n len (place + length s.part) r.0 r.1 more (bytes_after (b ∷ bytes) s.part r.1 are s.whole) (omega arith) (omega arith) more_read))
+    (entries_ok next Spells form n len (place + length s.part) r.0 r.1 more (bytes_after (b ∷ bytes) s.part r.1 are s.whole) (omega arith) (omega arith) more_read))
 
 -- the entries that are spelled are read
-pub entries-spelled : (n len place : ℕ) (before : Entry (List ℕ)) (key bytes : List ℕ) (entries : List (Entry (List ℕ))) → length bytes ≤ n → len ≡ place + length bytes → before.key ≡ key → AreEntries place key bytes entries → entries_after (next_entry len) n before bytes ≡ Ok entries
+pub entries-spelled : {V F : Type 0} (next : ℕ → Entry V → List ℕ → Result (Entry V × List ℕ) F) (Spells : Spelling V) → Form next Spells → (n len place : ℕ) (before : Entry V) (bytes : List ℕ) (entries : List (Entry V)) → length bytes ≤ n → len ≡ place + length bytes → AreEntries Spells place before bytes entries → entries_after (next len) n before bytes ≡ Ok entries
 unfolding entries_after
-entries-spelled n len place before key bytes entries few is key_is no_more = refl
-entries-spelled zero len place before key bytes entries few is key_is (one_more {spelled = part} {rest = rest} {entry = entry} whole place_is s more) =
-    absurd (omega (arith, some_bytes key part entry s, ap length whole, length-append part rest))
-entries-spelled (suc n) len place before key bytes entries few is key_is (one_more {spelled = part} {rest = rest} {entry = entry} {entries = after} whole place_is s more) =
-    let some = some_bytes key part entry s in
+entries-spelled next Spells form n len place before bytes entries few is no_more = refl
+entries-spelled next Spells form zero len place before bytes entries few is (one_more {entry = entry} {spelled = part} {rest = rest} whole place_is s more) =
+    absurd (omega (arith, form.some before part entry s, ap length whole, length-append part rest))
+entries-spelled next Spells form (suc n) len place before bytes entries few is (one_more {entry = entry} {spelled = part} {rest = rest} {entries = after} whole place_is s more) =
+    let some = form.some before part entry s in
     let lens : length bytes ≡ length part + length rest = ap length whole ∙ length-append part rest in
-    let read : next_entry len before bytes ≡ Ok (entry, rest) =
-    ap (next_entry len before) whole ∙ next_entry-spelled len before part rest entry (subst (λ k. SpellsEntry k part entry) (sym key_is) s) (omega (arith, length-append part rest)) in
-    entries_after-more (next_entry len) n before bytes (omega arith)
-    ∙ first_step (next_entry len before bytes) _ _ read
-    ∙ first_step _ _ after (entries-spelled n len (place + length part) entry entry.key rest after (omega arith) (omega arith) refl more)
+    let read : next len before bytes ≡ Ok (entry, rest) =
+    ap (next len before) whole ∙ form.spelled len before part rest entry s (omega (arith, length-append part rest)) in
+    entries_after-more (next len) n before bytes (omega arith)
+    ∙ first_step (next len before bytes) _ _ read
+    ∙ first_step _ _ after (entries-spelled next Spells form n len (place + length part) entry rest after (omega arith) (omega arith) more)

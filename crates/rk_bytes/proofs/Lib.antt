@@ -2,3 +2,4 @@ pub mod ReadingLemmas
 pub mod BlockLemmas
 pub mod RestartLemmas
 pub mod BlockLaw
+pub mod EntryLemmas

@@ -6,7 +6,7 @@ use Rattle.std.proofs.lemmas.Bool.{lt-ltb, ltb-true, le-ltb, ltb-false, le-leb, 
 use Rattle.std.proofs.lemmas.List.{take-append-drop, length-take-le, length-append}
 use Rattle.std.proofs.lemmas.List.Sums.{take_while-cons}
 use Rattle.std.proofs.Math.Seq.{take-append_seam, drop-append_seam}
-use Rattle.rk_bytes.specs.Model.Numbers.{◌>>=◌, part_of, high_count, groups_value, IsVarint, varint_at}
+use Rattle.rk_bytes.specs.Model.Numbers.{◌>>=◌, part_of, high_count, groups_value, IsVarint, IsVarint32, IsVarint64, varint_at, varint32_at, varint64_at}
 use Rattle.rk_bytes.specs.Model.BlockEntries.{with_fault}
 
 -- where a reading of two steps gives a value, both do
@@ -30,6 +30,25 @@ passed false fault r a e = (refl, e)
 pub taken : {A F : Type 0} (b : Bool) (fault : F) (x a : A) → cond b (Ok x) (Err fault) ≡ Ok a → (b ≡ true) × (x ≡ a)
 taken true fault x a e = (refl, cc)
 taken false fault x a e = absurd cc
+
+-- numbers that are bytes
+abbrev pub AreBytes : List ℕ → Type 0
+AreBytes bytes = AllByRecursion (λ b. b < 256) bytes
+
+pub rest_of_bytes : (part rest : List ℕ) → AreBytes (part ++ rest) → AreBytes rest
+rest_of_bytes [] rest are = are
+rest_of_bytes (b ∷ part) rest are = rest_of_bytes part rest are.1
+
+-- what follows a part of bytes is bytes
+pub bytes_after : (bytes part rest : List ℕ) → AreBytes bytes → bytes ≡ part ++ rest → AreBytes rest
+bytes_after bytes part rest are e = rest_of_bytes part rest (subst (λ bytes. AreBytes bytes) e are)
+
+pub front_of_bytes : (part rest : List ℕ) → AreBytes (part ++ rest) → AreBytes part
+front_of_bytes [] rest are = tt
+front_of_bytes (b ∷ part) rest are = (are.0, front_of_bytes part rest are.1)
+
+pub bytes_before : (bytes part rest : List ℕ) → AreBytes bytes → bytes ≡ part ++ rest → AreBytes part
+bytes_before bytes part rest are e = front_of_bytes part rest (subst (λ bytes. AreBytes bytes) e are)
 
 pub part_of_ok : (n : ℕ) (bytes : List ℕ) (r : List ℕ × List ℕ) → part_of n bytes ≡ Ok r → (bytes ≡ r.0 ++ r.1) × (length r.0 ≡ n)
 part_of_ok n bytes r e =
@@ -107,3 +126,19 @@ varint_at-append most bits part rest n v =
     let fits : length part ≤ length (part ++ rest) = omega (arith, length-append part rest) in
     let value : groups_value part < 2 ^ bits = subst (λ n. n < 2 ^ bits) v.value v.fits in
     rw (len, le-ltb most (length part) v.short, le-ltb (length (part ++ rest)) (length part) fits, take-append_seam, drop-append_seam, lt-ltb (groups_value part) (2 ^ bits) value, ← v.value)
+
+pub varint32_ok : (bytes : List ℕ) (r : ℕ × List ℕ) → AreBytes bytes → varint32_at bytes ≡ Ok r → (part : List ℕ) × (bytes ≡ part ++ r.1) × IsVarint32 part r.0 × AreBytes r.1
+varint32_ok bytes r are e =
+    let (part, whole, v) = varint_at_ok 5 32 bytes r are e in
+    (part, whole, record { groups = v.groups; short = v.short; fits = v.fits; value = v.value }, bytes_after bytes part r.1 are whole)
+
+pub varint32-append : (part rest : List ℕ) (n : ℕ) → IsVarint32 part n → varint32_at (part ++ rest) ≡ Ok (n, rest)
+varint32-append part rest n v = varint_at-append 5 32 part rest n (record { groups = v.groups; short = v.short; fits = v.fits; value = v.value })
+
+pub varint64_ok : (bytes : List ℕ) (r : ℕ × List ℕ) → AreBytes bytes → varint64_at bytes ≡ Ok r → (part : List ℕ) × (bytes ≡ part ++ r.1) × IsVarint64 part r.0 × AreBytes r.1
+varint64_ok bytes r are e =
+    let (part, whole, v) = varint_at_ok 10 64 bytes r are e in
+    (part, whole, record { groups = v.groups; short = v.short; fits = v.fits; value = v.value }, bytes_after bytes part r.1 are whole)
+
+pub varint64-append : (part rest : List ℕ) (n : ℕ) → IsVarint64 part n → varint64_at (part ++ rest) ≡ Ok (n, rest)
+varint64-append part rest n v = varint_at-append 10 64 part rest n (record { groups = v.groups; short = v.short; fits = v.fits; value = v.value })

@@ -8,8 +8,7 @@ use Rattle.std.proofs.Math.Seq.{take-append_seam, drop-append_seam, drop-append-
 use Rattle.rk_bytes.specs.declared.model.BlockFault.{BlockFault}
 use Rattle.rk_bytes.specs.Model.Numbers.{little_endian, fixed_of}
 use Rattle.rk_bytes.specs.Model.BlockEntries.{fixed32s, restart_count, block_parts}
-use Rattle.rk_bytes.proofs.ReadingLemmas.{passed}
-use Rattle.rk_bytes.proofs.BlockLemmas.{AreBytes, rest_of_bytes, bytes_after}
+use Rattle.rk_bytes.proofs.ReadingLemmas.{passed, AreBytes, rest_of_bytes, front_of_bytes, bytes_after}
 
 -- a byte before a number, and the number apart from it again
 low_byte : (b m : ℕ) → b < 256 → (b + 256 * m) % 256 ≡ b
@@ -49,13 +48,6 @@ neither : (a b : Bool) → (a || b) ≡ false → (a ≡ false) × (b ≡ false)
 neither false false e = (refl, refl)
 neither false true e = absurd cc
 neither true b e = absurd cc
-
-front_of_bytes : (part rest : List ℕ) → AreBytes (part ++ rest) → AreBytes part
-front_of_bytes [] rest are = tt
-front_of_bytes (b ∷ part) rest are = (are.0, front_of_bytes part rest are.1)
-
-pub bytes_before : (bytes part rest : List ℕ) → AreBytes bytes → bytes ≡ part ++ rest → AreBytes part
-bytes_before bytes part rest are e = front_of_bytes part rest (subst (λ bytes. AreBytes bytes) e are)
 
 -- the parts of a block with room for this count
 parts_with : List ℕ → ℕ → List ℕ × List ℕ

@@ -1,16 +1,16 @@
 //! The definitions of RocksDB's formats. They stand in `specs/Model`, over plain lists and numbers;
 //! here are the enums that they share with the code, and the laws that hold of them.
-ghost use Rattle.std.specs.Prelude.{◌≡◌, ◌↔◌, ◌<◌, ◌^◌, ℕ, List, Ok};
+ghost use Rattle.std.specs.Prelude.{◌≡◌, ◌↔◌, ◌<◌, ◌^◌, ℕ, List, [], Ok};
 ghost use Rattle.std.specs.List.{AllByRecursion};
-ghost use Rattle.rk_bytes.specs.Model.BlockEntries.{Entry, IsBlock, block_entries};
+ghost use Rattle.rk_bytes.specs.Model.BlockEntries.{Entry, IsBlock, SpellsEntry, block_entries};
 
 use crate::{Bytes, Seq};
 
 /// Law: the entries that are read of a block are those that its bytes spell, and there is at most one
 /// list of them.
 pub fn one_block()
-    ensures read { (block : List ℕ) (entries : List (Entry (List ℕ))) → AllByRecursion (λ b. b < 2 ^ 8) block → (block_entries block ≡ Ok entries) ↔ IsBlock block entries }
-    ensures unique { (block : List ℕ) (entries others : List (Entry (List ℕ))) → IsBlock block entries → IsBlock block others → others ≡ entries }
+    ensures read { (block : List ℕ) (entries : List (Entry (List ℕ))) → AllByRecursion (λ b. b < 2 ^ 8) block → (block_entries block ≡ Ok entries) ↔ IsBlock SpellsEntry [] block entries }
+    ensures unique { (block : List ℕ) (entries others : List (Entry (List ℕ))) → IsBlock SpellsEntry [] block entries → IsBlock SpellsEntry [] block others → others ≡ entries }
 {}
 
 /// Why a number or a part doesn't read.

@@ -11,7 +11,7 @@ use Rattle.rk_bytes.specs.declared.model.NumFault.{NumFault}
 use Rattle.rk_bytes.specs.declared.model.NumFault.TheVariants.{TooLarge}
 use Rattle.rk_bytes.specs.declared.model.Handle.{Handle}
 use Rattle.rk_bytes.specs.declared.model.IndexEntry.{IndexEntry}
-use Rattle.rk_bytes.specs.Model.Numbers.{little_endian, fixed_of, IsVarint32, from_zigzag, Read, ◌>>=◌, part_of, varint32_at, varint64_at}
+use Rattle.rk_bytes.specs.Model.Numbers.{little_endian, fixed_of, IsVarint32, IsVarint64, from_zigzag, Read, ◌>>=◌, part_of, varint32_at, varint64_at}
 
 -- An entry has its place in the block, how many bytes its key shares with the key before, its whole
 -- key and its value.
@@ -107,9 +107,28 @@ next_entry len before bytes = let place = len - length bytes in with_fault (λ f
 unfoldable pub block_entries : List ℕ → Result (List (Entry (List ℕ))) BlockFault
 block_entries block = block_with (λ fault. fault) [] next_entry block
 
--- The bytes spell the entry that follows this key: three lengths, each in any spelling, the rest of its
--- key and its value.
-pub record SpellsEntry (before bytes : List ℕ) (entry : Entry (List ℕ)) : Type 0 where
+-- How bytes spell the entry that follows another.
+abbrev pub Spelling : Type 0 → Type 1
+Spelling V = Entry V → List ℕ → Entry V → Type 0
+
+-- The bytes spell these entries, from a place on and after an entry.
+pub data AreEntries {V : Type 0} (Spells : Spelling V) : ℕ → Entry V → List ℕ → List (Entry V) → Type 0 where
+  no_more : {place : ℕ} {before : Entry V} → AreEntries Spells place before [] []
+  one_more : {place : ℕ} {before entry : Entry V} {bytes spelled rest : List ℕ} {entries : List (Entry V)} → bytes ≡ spelled ++ rest → entry.place ≡ place → Spells before spelled entry → AreEntries Spells (place + length spelled) entry rest entries → AreEntries Spells place before bytes (entry ∷ entries)
+
+-- The bytes are a block of these entries: their spelling, restart offsets that are right for them, and
+-- how many offsets there are.
+pub record IsBlock {V : Type 0} (Spells : Spelling V) (nothing : V) (block : List ℕ) (entries : List (Entry V)) : Type 0 where
+  pub spelled : List ℕ
+  pub offsets : List ℕ
+  pub parts : block ≡ spelled ++ (flat_map (fixed_of 4) offsets ++ fixed_of 4 (length offsets))
+  pub few : length offsets < 2 ^ 31
+  pub fit : AllByRecursion (λ offset. offset < 2 ^ 32) offsets
+  pub are : AreEntries Spells 0 (no_entry nothing) spelled entries
+  pub restarts : IsTrue (right_restarts entries offsets)
+
+-- An entry is spelled by three lengths, each in any spelling, the rest of its key and its value.
+pub record SpellsEntry (before : Entry (List ℕ)) (bytes : List ℕ) (entry : Entry (List ℕ)) : Type 0 where
   pub shared_len : List ℕ
   pub rest_len : List ℕ
   pub value_len : List ℕ
@@ -118,24 +137,8 @@ pub record SpellsEntry (before bytes : List ℕ) (entry : Entry (List ℕ)) : Ty
   pub shares : IsVarint32 shared_len entry.shared
   pub rests : IsVarint32 rest_len (length rest)
   pub holds : IsVarint32 value_len (length entry.value)
-  pub within : entry.shared ≤ length before
-  pub key : entry.key ≡ take entry.shared before ++ rest
-
--- The bytes spell these entries, from a place on and after a key.
-pub data AreEntries : ℕ → List ℕ → List ℕ → List (Entry (List ℕ)) → Type 0 where
-  no_more : {place : ℕ} {before : List ℕ} → AreEntries place before [] []
-  one_more : {place : ℕ} {before bytes spelled rest : List ℕ} {entry : Entry (List ℕ)} {entries : List (Entry (List ℕ))} → bytes ≡ spelled ++ rest → entry.place ≡ place → SpellsEntry before spelled entry → AreEntries (place + length spelled) entry.key rest entries → AreEntries place before bytes (entry ∷ entries)
-
--- The bytes are a block of these entries: their spelling, restart offsets that are right for them, and
--- how many offsets there are.
-pub record IsBlock (block : List ℕ) (entries : List (Entry (List ℕ))) : Type 0 where
-  pub spelled : List ℕ
-  pub offsets : List ℕ
-  pub parts : block ≡ spelled ++ (flat_map (fixed_of 4) offsets ++ fixed_of 4 (length offsets))
-  pub few : length offsets < 2 ^ 31
-  pub fit : AllByRecursion (λ offset. offset < 2 ^ 32) offsets
-  pub are : AreEntries 0 [] spelled entries
-  pub restarts : IsTrue (right_restarts entries offsets)
+  pub within : entry.shared ≤ length before.key
+  pub key : entry.key ≡ take entry.shared before.key ++ rest
 
 abbrev pub handle_at : List ℕ → Read Handle
 handle_at bytes = do
@@ -164,15 +167,56 @@ delta_key_at before bytes = do
   rest ← part_of rest_len.0 rest_len.1
   Ok ((shared.0, front.0 ++ rest.0), rest.1)
 
--- After it, the handle is whole where the key shares nothing.
+-- After the key, the handle is whole where the key shares nothing.
+abbrev pub delta_value_at : ℕ → Handle → List ℕ → Read Handle
+delta_value_at zero before bytes = handle_at bytes
+delta_value_at (suc shared) before bytes = handle_after before bytes
+
 abbrev pub next_delta_entry : ℕ → Entry Handle → List ℕ → Result (Entry Handle × List ℕ) IndexFault
 next_delta_entry len before bytes = let place = len - length bytes in do
   key ← with_fault (λ fault. Block (BadEntry place)) (delta_key_at before.key bytes)
-  handle ← with_fault (λ fault. BadHandle) (if key.0.0 == 0 then handle_at key.1 else handle_after before.value key.1)
+  handle ← with_fault (λ fault. BadHandle) (delta_value_at key.0.0 before.value key.1)
   Ok (record { place = place; shared = key.0.0; key = key.0.1; value = handle.0 }, handle.1)
 
+abbrev pub no_handle : Handle
+no_handle = record { offset = 0; size = 0 }
+
 abbrev pub delta_handles : List ℕ → Result (List (Entry Handle)) IndexFault
-delta_handles block = block_with Block (record { offset = 0; size = 0 }) next_delta_entry block
+delta_handles block = block_with Block no_handle next_delta_entry block
+
+-- The bytes are a handle: its offset, and its size.
+pub record SpellsHandle (bytes : List ℕ) (handle : Handle) : Type 0 where
+  pub offset_bytes : List ℕ
+  pub size_bytes : List ℕ
+  pub spelled : bytes ≡ offset_bytes ++ size_bytes
+  pub offset : IsVarint64 offset_bytes handle.offset
+  pub size : IsVarint64 size_bytes handle.size
+
+-- The bytes say how much larger a block is than the one right before it.
+pub record SpellsDifference (before : Handle) (bytes : List ℕ) (handle : Handle) : Type 0 where
+  pub zigzag : ℕ
+  pub difference : IsVarint64 bytes zigzag
+  pub size : pos handle.size ≡ pos before.size +ℤ from_zigzag zigzag
+  pub offset : handle.offset ≡ before.offset + before.size + 5
+  pub size_fits : handle.size < 2 ^ 64
+  pub offset_fits : handle.offset < 2 ^ 64
+
+abbrev pub SpellsDeltaValue : ℕ → Handle → List ℕ → Handle → Type 0
+SpellsDeltaValue zero before bytes handle = SpellsHandle bytes handle
+SpellsDeltaValue (suc shared) before bytes handle = SpellsDifference before bytes handle
+
+-- Where values are delta-encoded, an entry is spelled by two lengths, the rest of its key and its handle.
+pub record SpellsDeltaEntry (before : Entry Handle) (bytes : List ℕ) (entry : Entry Handle) : Type 0 where
+  pub shared_len : List ℕ
+  pub rest_len : List ℕ
+  pub rest : List ℕ
+  pub handle : List ℕ
+  pub spelled : bytes ≡ shared_len ++ (rest_len ++ (rest ++ handle))
+  pub shares : IsVarint32 shared_len entry.shared
+  pub rests : IsVarint32 rest_len (length rest)
+  pub within : entry.shared ≤ length before.key
+  pub key : entry.key ≡ take entry.shared before.key ++ rest
+  pub value : SpellsDeltaValue entry.shared before.value handle entry.value
 
 -- an entry whose value is one whole handle
 abbrev pub with_handle : Entry (List ℕ) → Result (Entry Handle) IndexFault
