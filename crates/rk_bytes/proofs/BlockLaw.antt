@@ -1,11 +1,14 @@
--- A block's entries are read just where its bytes are a block of them.
+-- A block's entries are read just where its bytes are a block of them, in each form of block.
 use Rattle.std.proofs.Common.{◌≡◌, ℕ, ◌<◌, List, [], ◌∷◌, length, Result, Ok, ◌∙◌, ap, subst, arith}
 use Rattle.std.specs.Prelude.{IsTrue}
 use Rattle.rk_bytes.specs.declared.model.BlockFault.{BlockFault}
-use Rattle.rk_bytes.specs.Model.BlockEntries.{Entry, with_fault, no_entry, next_entry, entries_after, block_parts, block_with, right_restarts, block_entries, Spelling, IsBlock, SpellsEntry}
+use Rattle.rk_bytes.specs.declared.model.IndexFault.TheVariants.{Block}
+use Rattle.rk_bytes.specs.declared.model.Handle.{Handle}
+use Rattle.rk_bytes.specs.Model.BlockEntries.{Entry, with_fault, no_entry, next_entry, entries_after, block_parts, block_with, right_restarts, block_entries, Spelling, IsBlock, SpellsEntry, no_handle, next_delta_entry, delta_handles, SpellsDeltaEntry}
 use Rattle.rk_bytes.proofs.ReadingLemmas.{both_steps, first_step, with_fault_ok, taken, AreBytes, bytes_before}
 use Rattle.rk_bytes.proofs.BlockLemmas.{Form, entries_ok, entries-spelled}
 use Rattle.rk_bytes.proofs.EntryLemmas.{entry_form}
+use Rattle.rk_bytes.proofs.DeltaLemmas.{delta_form}
 use Rattle.rk_bytes.proofs.RestartLemmas.{MadeOf, block_parts_ok, block_parts-made}
 
 module _ {V F : Type 0} (word : BlockFault → F) (nothing : V) (next : ℕ → Entry V → List ℕ → Result (Entry V × List ℕ) F) (Spells : Spelling V) (form : Form next Spells) where
@@ -51,3 +54,9 @@ block_entries_ok = block_with_ok (λ fault. fault) [] next_entry SpellsEntry ent
 pub block_entries-block : (block : List ℕ) (entries : List (Entry (List ℕ))) → IsBlock SpellsEntry [] block entries → block_entries block ≡ Ok entries
 unfolding block_entries
 block_entries-block = block_with-block (λ fault. fault) [] next_entry SpellsEntry entry_form
+
+pub delta_handles_ok : (block : List ℕ) (entries : List (Entry Handle)) → AreBytes block → delta_handles block ≡ Ok entries → IsBlock SpellsDeltaEntry no_handle block entries
+delta_handles_ok = block_with_ok Block no_handle next_delta_entry SpellsDeltaEntry delta_form
+
+pub delta_handles-block : (block : List ℕ) (entries : List (Entry Handle)) → IsBlock SpellsDeltaEntry no_handle block entries → delta_handles block ≡ Ok entries
+delta_handles-block = block_with-block Block no_handle next_delta_entry SpellsDeltaEntry delta_form

@@ -1,5 +1,5 @@
 -- The entries that are read are those that are spelled, in each form of entry.
-use Rattle.std.proofs.Common.{◌≡◌, ℕ, zero, suc, ◌+◌, ◌-◌, ◌≤◌, List, [], ◌∷◌, ◌++◌, length, Result, Ok, refl, ◌∙◌, ap, subst, arith}
+use Rattle.std.proofs.Common.{◌≡◌, ℕ, zero, suc, ◌+◌, ◌-◌, ◌≤◌, List, [], ◌∷◌, ◌++◌, length, Result, Ok, refl, sym, ◌∙◌, ap, subst, arith}
 use Rattle.std.proofs.lemmas.List.{length-append}
 use Rattle.rk_bytes.specs.Model.Numbers.{◌>>=◌}
 use Rattle.rk_bytes.specs.Model.BlockEntries.{Entry, entries_after, Spelling, AreEntries, no_more, one_more}
@@ -17,6 +17,12 @@ pub record Form {V F : Type 0} (next : ℕ → Entry V → List ℕ → Result (
   pub reads : (len : ℕ) (before : Entry V) (bytes : List ℕ) (r : Entry V × List ℕ) → AreBytes bytes → next len before bytes ≡ Ok r → Spelled Spells (len - length bytes) before bytes r
   pub spelled : (len : ℕ) (before : Entry V) (part rest : List ℕ) (entry : Entry V) → Spells before part entry → entry.place ≡ len - length (part ++ rest) → next len before (part ++ rest) ≡ Ok (entry, rest)
   pub some : (before : Entry V) (part : List ℕ) (entry : Entry V) → Spells before part entry → 1 ≤ length part
+
+-- an entry with a place and a key that are its own
+pub with_own : {V : Type 0} (entry : Entry V) (place : ℕ) (key : List ℕ) → entry.place ≡ place → entry.key ≡ key → record { place = place; shared = entry.shared; key = key; value = entry.value } ≡ entry
+with_own {V} entry place key place_is key_is =
+    ap (λ (p : ℕ). let own : Entry V = record { place = p; shared = entry.shared; key = key; value = entry.value } in own) (sym place_is)
+    ∙ ap (λ (k : List ℕ). let own : Entry V = record { place = entry.place; shared = entry.shared; key = k; value = entry.value } in own) (sym key_is)
 
 -- a step of the reading of entries
 pub entries_after-more : {V F : Type 0} (next : Entry V → List ℕ → Result (Entry V × List ℕ) F) (n : ℕ) (before : Entry V) (bytes : List ℕ) → 1 ≤ length bytes

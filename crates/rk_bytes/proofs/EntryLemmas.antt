@@ -6,7 +6,7 @@ use Rattle.rk_bytes.specs.declared.model.NumFault.{NumFault}
 use Rattle.rk_bytes.specs.Model.Numbers.{part_of, IsVarint32, varint32_at}
 use Rattle.rk_bytes.specs.Model.BlockEntries.{Entry, with_fault, next_entry, SpellsEntry}
 use Rattle.rk_bytes.proofs.ReadingLemmas.{both_steps, first_step, with_fault_ok, part_of_ok, part_of-append, part_of-within, varint_len, AreBytes, varint32_ok, varint32-append}
-use Rattle.rk_bytes.proofs.BlockLemmas.{Spelled, Form}
+use Rattle.rk_bytes.proofs.BlockLemmas.{Spelled, Form, with_own}
 
 -- what the steps of an entry's reading give
 record Steps (place : ℕ) (before bytes : List ℕ) (r : Entry (List ℕ) × List ℕ) : Type 0 where
@@ -87,12 +87,6 @@ spelled_by place before bytes r are s =
         key = ap (λ x. x ++ s.rest.0) front;
       };
     })
-
--- an entry with a place and a key that are its own
-with_own : (entry : Entry (List ℕ)) (place : ℕ) (key : List ℕ) → entry.place ≡ place → entry.key ≡ key → record { place = place; shared = entry.shared; key = key; value = entry.value } ≡ entry
-with_own entry place key place_is key_is =
-    ap (λ (p : ℕ). let own : Entry (List ℕ) = record { place = p; shared = entry.shared; key = key; value = entry.value } in own) (sym place_is)
-    ∙ ap (λ (k : List ℕ). let own : Entry (List ℕ) = record { place = entry.place; shared = entry.shared; key = k; value = entry.value } in own) (sym key_is)
 
 next_entry-spelled : (len : ℕ) (before : Entry (List ℕ)) (part rest : List ℕ) (entry : Entry (List ℕ)) → SpellsEntry before part entry → entry.place ≡ len - length (part ++ rest) → next_entry len before (part ++ rest) ≡ Ok (entry, rest)
 next_entry-spelled len before part rest entry s place =

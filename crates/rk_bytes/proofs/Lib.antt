@@ -3,3 +3,4 @@ pub mod BlockLemmas
 pub mod RestartLemmas
 pub mod BlockLaw
 pub mod EntryLemmas
+pub mod DeltaLemmas

@@ -2,7 +2,7 @@
 //! here are the enums that they share with the code, and the laws that hold of them.
 ghost use Rattle.std.specs.Prelude.{◌≡◌, ◌↔◌, ◌<◌, ◌^◌, ℕ, List, [], Ok};
 ghost use Rattle.std.specs.List.{AllByRecursion};
-ghost use Rattle.rk_bytes.specs.Model.BlockEntries.{Entry, IsBlock, SpellsEntry, block_entries};
+ghost use Rattle.rk_bytes.specs.Model.BlockEntries.{Entry, IsBlock, SpellsEntry, block_entries, SpellsDeltaEntry, no_handle, delta_handles};
 
 use crate::{Bytes, Seq};
 
@@ -11,6 +11,12 @@ use crate::{Bytes, Seq};
 pub fn one_block()
     ensures read { (block : List ℕ) (entries : List (Entry (List ℕ))) → AllByRecursion (λ b. b < 2 ^ 8) block → (block_entries block ≡ Ok entries) ↔ IsBlock SpellsEntry [] block entries }
     ensures unique { (block : List ℕ) (entries others : List (Entry (List ℕ))) → IsBlock SpellsEntry [] block entries → IsBlock SpellsEntry [] block others → others ≡ entries }
+{}
+
+/// Law: the same of an index block with delta-encoded handles.
+pub fn one_delta_index()
+    ensures read { (block : List ℕ) (entries : List (Entry Handle)) → AllByRecursion (λ b. b < 2 ^ 8) block → (delta_handles block ≡ Ok entries) ↔ IsBlock SpellsDeltaEntry no_handle block entries }
+    ensures unique { (block : List ℕ) (entries others : List (Entry Handle)) → IsBlock SpellsDeltaEntry no_handle block entries → IsBlock SpellsDeltaEntry no_handle block others → others ≡ entries }
 {}
 
 /// Why a number or a part doesn't read.
