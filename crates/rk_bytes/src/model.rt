@@ -56,3 +56,161 @@ pub enum Status {
     /// Memory ran out.
     Memory,
 }
+
+/// How a table's blocks are summed. The number in the footer is the variant's place in this list.
+#[derive(Clone, Copy, Debug, PartialEq, Eq)]
+pub enum SumKind {
+    /// No sum: 0 is stored, and nothing is tested.
+    NoSum,
+    /// CRC32C, masked.
+    Crc32c,
+    /// XXH32 with seed 0.
+    Xxh32,
+    /// The low 32 bits of XXH64 with seed 0.
+    Xxh64,
+}
+
+/// What a record does to its key.
+#[derive(Clone, Copy, Debug, PartialEq, Eq)]
+pub enum Kind {
+    /// Deletes the key. Its number is 0.
+    Deletion,
+    /// Puts a value. Its number is 1.
+    Value,
+    /// Adds an operand for a merge. Its number is 2.
+    Merge,
+    /// Deletes a key that was put once. Its number is 7.
+    SingleDeletion,
+    /// Deletes the keys from its key up to its end, the end excluded. Its number is 15.
+    RangeDeletion,
+}
+
+/// Why an internal key doesn't read.
+#[derive(Clone, Copy, Debug, PartialEq, Eq)]
+pub enum KeyFault {
+    /// Fewer than 8 bytes.
+    Short,
+    /// The number of a kind that isn't supported: 16 to 31.
+    UnsupportedKind(u8),
+    /// Any other number that no kind has.
+    UnknownKind(u8),
+}
+
+/// Why a write batch doesn't read.
+#[derive(Clone, Copy, Debug, PartialEq, Eq)]
+pub enum BatchFault {
+    /// Fewer than 12 bytes.
+    TooSmall,
+    /// At this place of the batch no record reads.
+    BadRecord(u64),
+    /// The tag of a record that isn't supported.
+    UnsupportedTag(u8),
+    /// The batch states another number of changes than stand in it.
+    WrongCount { stated: u32, found: u64 },
+    /// The batch's sequence number, or that of its last change, is above the greatest one.
+    SequenceTop,
+}
+
+/// Why a version edit doesn't read. The place is that of the field's tag in the edit.
+#[derive(Clone, Copy, Debug, PartialEq, Eq)]
+pub enum EditFault {
+    /// The tag of no field.
+    UnknownTag { tag: u32, place: u64 },
+    /// The tag of a field that isn't supported.
+    UnsupportedTag { tag: u32, place: u64 },
+    /// The field with this tag doesn't read, or its value is refused.
+    BadField { tag: u32, place: u64 },
+}
+
+/// The least and the greatest sequence number in a table.
+#[derive(Clone, Copy, Debug, PartialEq, Eq)]
+pub struct Seqs {
+    pub least: u64,
+    pub greatest: u64,
+}
+
+/// What in a manifest's log is damaged.
+#[derive(Clone, Copy, Debug, PartialEq, Eq)]
+pub enum ManifestWhy {
+    /// A piece of the log is left out.
+    Gap(GapWhy),
+    /// A log record of a type that isn't supported.
+    Unsupported(u8),
+}
+
+/// Why a unit of a manifest isn't applied to the version before it.
+#[derive(Clone, Copy, Debug, PartialEq, Eq)]
+pub enum ApplyFault {
+    /// A comparator that isn't the bytewise one.
+    UnsupportedComparator,
+    /// A family is added whose id or name is there.
+    FamilyExists(u32),
+    /// The edit speaks of a family that isn't there.
+    UnknownFamily(u32),
+    /// A file is deleted that isn't in that family at that level.
+    DeleteAbsent(u64),
+    /// A file is added whose number is there.
+    AddPresent(u64),
+    /// Two files of this family and this level above 0 overlap.
+    Overlap { family: u32, level: u32 },
+}
+
+/// Why an edit of a manifest is bad.
+#[derive(Clone, Copy, Debug, PartialEq, Eq)]
+pub enum EditWhy {
+    /// It doesn't read.
+    Read(EditFault),
+    /// Its unit isn't applied.
+    Apply(ApplyFault),
+}
+
+/// What the edits of a manifest have to state.
+#[derive(Clone, Copy, Debug, PartialEq, Eq)]
+pub enum Which {
+    LogNumber,
+    NextFile,
+    LastSequence,
+}
+
+/// The first fault of a manifest. Units are numbered from 1.
+#[derive(Clone, Copy, Debug, PartialEq, Eq)]
+pub enum ManifestFault {
+    /// The log is damaged at this place.
+    Damaged { place: u64, why: ManifestWhy },
+    /// An edit of this unit is bad.
+    BadEdit { unit: u64, why: EditWhy },
+    /// An edit within the group of this unit doesn't state how many are left, or states another number.
+    BadGroup { unit: u64 },
+    /// The edits state no such number.
+    NoFields(Which),
+}
+
+/// What a file's name says of the file.
+#[derive(Clone, Copy, Debug, PartialEq, Eq)]
+pub enum FileName {
+    /// `CURRENT`, which names the manifest.
+    Current,
+    /// A manifest with its number.
+    Manifest(u64),
+    /// A log with its number.
+    Log(u64),
+    /// A table with its number.
+    Table(u64),
+    /// A temporary file with its number.
+    Temp(u64),
+    /// Below `lost/`.
+    Lost,
+    /// Any other name.
+    Other,
+}
+
+/// Why `CURRENT` names no manifest.
+#[derive(Clone, Copy, Debug, PartialEq, Eq)]
+pub enum CurrentFault {
+    /// There is no newline.
+    NoNewline,
+    /// Something follows the first newline.
+    Trailing,
+    /// What stands before the newline is no manifest's name.
+    NotManifest,
+}
