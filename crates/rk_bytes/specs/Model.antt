@@ -5,3 +5,7 @@ pub mod LogItems
 pub mod FileNames
 pub mod DiskImages
 pub mod Output
+pub mod InternalKey
+pub mod Records
+pub mod WriteBatch
+pub mod VersionEdit

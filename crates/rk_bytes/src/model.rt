@@ -1,5 +1,7 @@
 //! The definitions of RocksDB's formats. They stand in `specs/Model`, over plain lists and numbers;
-//! here are the enums that they share with the code, and the laws that hold of them.
+//! here are the types that they share with the code, and the laws that hold of them.
+
+use crate::{Bytes, Seq};
 
 /// Why a number or a part doesn't read.
 #[derive(Clone, Copy, Debug, PartialEq, Eq)]
@@ -96,6 +98,18 @@ pub enum KeyFault {
     UnknownKind(u8),
 }
 
+/// What a table or a write batch says of a key, in a column family.
+#[derive(Debug, Drop)]
+pub struct Record {
+    pub family: u32,
+    /// The user key. The start of a range deletion.
+    pub key: Bytes,
+    pub sequence: u64,
+    pub kind: Kind,
+    /// Empty for a deletion. The end of a range deletion.
+    pub value: Bytes,
+}
+
 /// Why a write batch doesn't read.
 #[derive(Clone, Copy, Debug, PartialEq, Eq)]
 pub enum BatchFault {
@@ -183,6 +197,45 @@ pub enum ManifestFault {
     BadGroup { unit: u64 },
     /// The edits state no such number.
     NoFields(Which),
+}
+
+/// A table that a version lists.
+#[derive(Debug, Drop)]
+pub struct FileMeta {
+    pub number: u64,
+    pub level: u32,
+    /// The file's length in bytes.
+    pub size: u64,
+    /// The least internal key.
+    pub smallest: Bytes,
+    /// The greatest internal key.
+    pub largest: Bytes,
+}
+
+/// A live column family.
+#[derive(Debug, Drop)]
+pub struct FamilyState {
+    pub id: u32,
+    pub name: Bytes,
+    /// The least number of a log that may hold records of the family that no table holds.
+    pub log: u64,
+    /// In rising number.
+    pub files: Seq<FileMeta>,
+}
+
+/// What the units of a manifest amount to.
+#[derive(Debug, Drop)]
+pub struct Version {
+    /// In rising id.
+    pub families: Seq<FamilyState>,
+    /// Some edit stated a log number.
+    pub log_seen: bool,
+    pub next_file: Option<u64>,
+    pub last_sequence: Option<u64>,
+    /// The least number of a log that is still needed.
+    pub least_log: u64,
+    /// The greatest id of a family so far.
+    pub greatest_family: u32,
 }
 
 /// What a file's name says of the file.
