@@ -9,3 +9,4 @@ pub mod InternalKey
 pub mod Records
 pub mod WriteBatch
 pub mod VersionEdit
+pub mod Manifest

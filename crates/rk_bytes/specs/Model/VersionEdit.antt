@@ -1,6 +1,6 @@
 -- Version edits: what a record of a manifest changes (db/version_edit.cc). The order of the tests, the bounds, and which tags
 -- are refused, are this project's own rules.
-use Rattle.std.specs.Prelude.{◌≡◌, ℕ, ◌+◌, ◌-◌, ◌/◌, ◌%◌, ◌^◌, zero, suc, Bool, true, false, not, ◌&&◌, ◌||◌, List, [], ◌∷◌, ◌++◌, length, find, slice_index, nat_le, ◌==◌, if◌then◌else◌, Option, Some, None, option_map, Result, Ok, Err, codes, refl}
+use Rattle.std.specs.Prelude.{◌≡◌, ℕ, ◌+◌, ◌-◌, ◌/◌, ◌%◌, ◌^◌, zero, suc, Bool, true, false, not, ◌&&◌, ◌||◌, List, [], ◌∷◌, ◌++◌, length, find, slice_index, nat_le, ◌==◌, if◌then◌else◌, Option, Some, None, option_map, is_some, Result, Ok, Err, codes, refl}
 use Rattle.std.specs.List.{list_any}
 use Rattle.rk_bytes.specs.declared.model.NumFault.TheVariants.{Cut, TooLarge}
 use Rattle.rk_bytes.specs.declared.model.Seqs.{Seqs}
@@ -35,6 +35,55 @@ pub data Field : Type 0 where
   greatest_family : ℕ → Field
   group : ℕ → Field
   ignored : ℕ → List ℕ → Field
+
+-- what a field of one kind holds
+abbrev pub comparator_in : Field → Option (List ℕ)
+comparator_in (comparator name) = Some name
+comparator_in _ = None
+
+abbrev pub log_number_in : Field → Option ℕ
+log_number_in (log_number n) = Some n
+log_number_in _ = None
+
+abbrev pub next_file_in : Field → Option ℕ
+next_file_in (next_file n) = Some n
+next_file_in _ = None
+
+abbrev pub last_sequence_in : Field → Option ℕ
+last_sequence_in (last_sequence n) = Some n
+last_sequence_in _ = None
+
+abbrev pub deleted_in : Field → Option (ℕ × ℕ)
+deleted_in (delete_file level number) = Some (level, number)
+deleted_in _ = None
+
+abbrev pub added_in : Field → Option NewFile
+added_in (add_file file) = Some file
+added_in _ = None
+
+abbrev pub least_log_in : Field → Option ℕ
+least_log_in (least_log n) = Some n
+least_log_in _ = None
+
+abbrev pub family_in : Field → Option ℕ
+family_in (family id) = Some id
+family_in _ = None
+
+abbrev pub family_add_in : Field → Option (List ℕ)
+family_add_in (family_add name) = Some name
+family_add_in _ = None
+
+abbrev pub drops_family : Field → Bool
+drops_family family_drop = true
+drops_family _ = false
+
+abbrev pub greatest_family_in : Field → Option ℕ
+greatest_family_in (greatest_family id) = Some id
+greatest_family_in _ = None
+
+abbrev pub group_in : Field → Option ℕ
+group_in (group left) = Some left
+group_in _ = None
 
 -- Values that have bounds of their own: a level is at most 255, an internal key has 8 bytes at least.
 abbrev pub level_at : List ℕ → Read ℕ
@@ -141,17 +190,9 @@ field_of_tag place tag bytes =
       | None ↦ Err (UnknownTag tag place)
     ]))
 
-abbrev pub adds_family : Field → Bool
-adds_family (family_add name) = true
-adds_family _ = false
-
-abbrev pub drops_family : Field → Bool
-drops_family family_drop = true
-drops_family _ = false
-
 -- a family's drop after its add, or an add after a drop
 abbrev pub clashes : ℕ → List Field → Bool
-clashes tag before = tag == 202 && list_any adds_family before || tag == 201 && list_any drops_family before
+clashes tag before = tag == 202 && list_any (λ field. is_some (family_add_in field)) before || tag == 201 && list_any drops_family before
 
 -- the field at the front of an edit's last bytes
 abbrev pub field_at : ℕ → List Field → List ℕ → Result (Field × List ℕ) EditFault
@@ -164,10 +205,52 @@ field_at edit_len before bytes =
 unfoldable pub edit_fields : List ℕ → Result (List Field) EditFault
 edit_fields bytes = in_turn (field_at (length bytes)) (length bytes) [] bytes
 
-of_an_ignored_tag : edit_fields (0x81 ∷ 0x40 ∷ 0x03 ∷ codes "abc") ≡ Ok (ignored 8193 (codes "abc") ∷ [])
+of_a_first_edit : edit_fields (codes "\x01\x1aleveldb.BytewiseComparator\x02\x03\x03\x04\x04\x00")
+    ≡ Ok (comparator (codes "leveldb.BytewiseComparator") ∷ log_number 3 ∷ next_file 4 ∷ last_sequence 0 ∷ [])
+unfolding edit_fields in_turn
+of_a_first_edit = refl
+
+-- the internal key of `a` = .. at sequence number 1
+put_a : List ℕ
+put_a = 0x61 ∷ 1 ∷ 1 ∷ 0 ∷ 0 ∷ 0 ∷ 0 ∷ 0 ∷ 0 ∷ []
+
+-- an added file of 1,000 bytes at level 0, with these custom fields
+added_file : List ℕ → List ℕ
+added_file customs = (0x67 ∷ 0 ∷ 4 ∷ 0xE8 ∷ 0x07 ∷ []) ++ 9 ∷ put_a ++ 9 ∷ put_a ++ 1 ∷ 1 ∷ customs
+
+of_an_added_file : edit_fields (added_file (1 ∷ []))
+    ≡ Ok (add_file (record { level = 0; number = 4; size = 1000; smallest = put_a; largest = put_a; seqs = Some (record { least = 1; greatest = 1 }) }) ∷ [])
+unfolding edit_fields in_turn after_customs added_file put_a
+of_an_added_file = refl
+
+of_a_path : edit_fields (added_file (65 ∷ 1 ∷ 2 ∷ 1 ∷ [])) ≡ Err (UnsupportedTag 65 0)
+unfolding edit_fields in_turn after_customs added_file put_a
+of_a_path = refl
+
+of_a_custom_field_to_know : edit_fields (added_file (5 ∷ 0 ∷ 66 ∷ [])) ≡ Err (UnknownTag 66 0)
+unfolding edit_fields in_turn after_customs added_file put_a
+of_a_custom_field_to_know = refl
+
+of_no_end_of_custom_fields : edit_fields (added_file (5 ∷ 0 ∷ [])) ≡ Err (BadField 103 0)
+unfolding edit_fields in_turn after_customs added_file put_a
+of_no_end_of_custom_fields = refl
+
+of_an_ignored_tag : edit_fields (0x81 ∷ 0x40 ∷ 3 ∷ codes "abc") ≡ Ok (ignored 8193 (codes "abc") ∷ [])
 unfolding edit_fields in_turn
 of_an_ignored_tag = refl
 
-of_a_blob_tag : edit_fields (0x66 ∷ []) ≡ Err (UnsupportedTag 102 0)
+of_an_older_added_file : edit_fields (0x66 ∷ []) ≡ Err (UnsupportedTag 102 0)
 unfolding edit_fields in_turn
-of_a_blob_tag = refl
+of_an_older_added_file = refl
+
+of_a_drop_after_an_add : edit_fields (0xC8 ∷ 1 ∷ 1 ∷ 0xC9 ∷ 1 ∷ 1 ∷ 0x66 ∷ 0xCA ∷ 1 ∷ []) ≡ Err (BadField 202 7)
+unfolding edit_fields in_turn
+of_a_drop_after_an_add = refl
+
+of_a_great_level : edit_fields (2 ∷ 7 ∷ 6 ∷ 0x80 ∷ 2 ∷ 4 ∷ []) ≡ Err (BadField 6 2)
+unfolding edit_fields in_turn
+of_a_great_level = refl
+
+of_a_cut_tag : edit_fields (2 ∷ 7 ∷ 0xC8 ∷ []) ≡ Err (BadField 0 2)
+unfolding edit_fields in_turn
+of_a_cut_tag = refl

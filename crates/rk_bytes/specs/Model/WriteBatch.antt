@@ -111,10 +111,54 @@ batch_of bytes = if nat_lt (length bytes) 12 then Err TooSmall else (do
     else (if nat_lt top_sequence (batch_sequence bytes + (change_count parts - 1)) then Err SequenceTop
     else Ok (record { sequence = batch_sequence bytes; parts = parts })))
 
--- three puts, with the count that is stated
+-- three puts after sequence number 5, with the count that is stated
 three_puts : ℕ → List ℕ
 three_puts count = (5 ∷ 0 ∷ 0 ∷ 0 ∷ 0 ∷ 0 ∷ 0 ∷ 0 ∷ count ∷ 0 ∷ 0 ∷ 0 ∷ []) ++ codes "\x01\x01a\x011\x01\x01b\x012\x01\x01c\x013"
 
-wrong_count : batch_of (three_puts 2) ≡ Err (WrongCount 2 3)
+of_three_puts : batch_of (three_puts 3) ≡ Ok (record {
+  sequence = 5;
+  parts =
+    change 12 (record { family = 0; key = codes "a"; sequence = 5; kind = Value; value = codes "1" })
+      ∷ change 17 (record { family = 0; key = codes "b"; sequence = 6; kind = Value; value = codes "2" })
+      ∷ change 22 (record { family = 0; key = codes "c"; sequence = 7; kind = Value; value = codes "3" }) ∷ [];
+})
 unfolding batch_of in_turn three_puts
-wrong_count = refl
+of_three_puts = refl
+
+of_a_wrong_count : batch_of (three_puts 2) ≡ Err (WrongCount 2 3)
+unfolding batch_of in_turn three_puts
+of_a_wrong_count = refl
+
+-- no change, and then these bytes, after the greatest sequence number
+at_top : ℕ → List ℕ → List ℕ
+at_top count bytes = (0xFF ∷ 0xFF ∷ 0xFF ∷ 0xFF ∷ 0xFF ∷ 0xFF ∷ 0xFF ∷ 0 ∷ count ∷ 0 ∷ 0 ∷ 0 ∷ []) ++ bytes
+
+-- of what is no change, none takes a number
+of_no_change : batch_of (at_top 0 (codes "\x0D\x03\x02xy")) ≡ Ok (record { sequence = 2 ^ 56 - 1; parts = noop 12 ∷ log_bytes 13 (codes "xy") ∷ [] })
+unfolding batch_of in_turn at_top
+of_no_change = refl
+
+-- the last change that has a number, and one more
+of_the_last_change : batch_of (at_top 1 (codes "\x04\x02\x01a")) ≡ Ok (record {
+  sequence = 2 ^ 56 - 1;
+  parts = change 12 (record { family = 2; key = codes "a"; sequence = 2 ^ 56 - 1; kind = Deletion; value = [] }) ∷ [];
+})
+unfolding batch_of in_turn at_top
+of_the_last_change = refl
+
+of_one_change_too_many : batch_of (at_top 2 (codes "\x00\x01a\x00\x01b")) ≡ Err SequenceTop
+unfolding batch_of in_turn at_top
+of_one_change_too_many = refl
+
+-- the first fault counts, not the count that is wrong as well
+of_a_cut_record : batch_of (at_top 0 (codes "\x0D\x01\x01a\x02x")) ≡ Err (BadRecord 13)
+unfolding batch_of in_turn at_top
+of_a_cut_record = refl
+
+of_a_prepared_transaction : batch_of (at_top 0 (codes "\x0D\x09")) ≡ Err (UnsupportedTag 9)
+unfolding batch_of in_turn at_top
+of_a_prepared_transaction = refl
+
+of_eleven_bytes : batch_of (5 ∷ 0 ∷ 0 ∷ 0 ∷ 0 ∷ 0 ∷ 0 ∷ 0 ∷ 0 ∷ 0 ∷ 0 ∷ []) ≡ Err TooSmall
+unfolding batch_of
+of_eleven_bytes = refl
