@@ -1,11 +1,13 @@
 -- Units of a manifest, and the version that they amount to (RocksDB's wiki, "MANIFEST", and db/version_edit_handler.cc). The order
 -- of the refusals, and which number counts where one is stated twice, are this project's own rules.
-use Rattle.std.specs.Prelude.{◌≡◌, ℕ, zero, suc, ◌+◌, ◌-◌, ◌^◌, Bool, true, false, not, ◌&&◌, ◌||◌, List, [], ◌∷◌, ◌++◌, length, map, take, filter, filter_map, find, min, max, is_none, is_some, nat_eq, nat_lt, nat_le, ◌==◌, if◌then◌else◌, Option, Some, None, option_map, unwrap_or, Result, Ok, Err, bytes_eq, codes, refl}
+use Rattle.std.specs.Prelude.{◌≡◌, ℕ, zero, suc, ◌+◌, ◌-◌, ◌^◌, Bool, true, false, not, ◌&&◌, ◌||◌, List, [], ◌∷◌, ◌++◌, length, map, take, filter, filter_map, find, min, max, is_none, is_some, nat_eq, nat_lt, nat_le, ◌==◌, if◌then◌else◌, Option, Some, None, option_map, unwrap_or, is_ok, Result, Ok, Err, bytes_eq, codes, refl}
 use Rattle.std.specs.List.{list_any, list_all, last_or, reduce, range_with_len}
 use Rattle.std.specs.Option.{option_eq, option_or, option_map_or}
 use Rattle.std.specs.Ordering.{nat_cmp, is_lt, ordering_then}
-use Rattle.rk_bytes.specs.declared.model.EndKind.TheVariants.{Unsupported as unsupported_end}
-use Rattle.rk_bytes.specs.declared.model.EditFault.{EditFault}
+use Rattle.rk_bytes.specs.declared.model.GapWhy.TheVariants.{Checksum}
+use Rattle.rk_bytes.specs.declared.model.EndKind.TheVariants.{Clean, Unsupported as unsupported_end}
+use Rattle.rk_bytes.specs.declared.model.Kind.TheVariants.{Value}
+use Rattle.rk_bytes.specs.declared.model.EditFault.TheVariants.{UnsupportedTag}
 use Rattle.rk_bytes.specs.declared.model.ManifestWhy.TheVariants.{Gap, Unsupported}
 use Rattle.rk_bytes.specs.declared.model.EditWhy.TheVariants.{Read, Apply}
 use Rattle.rk_bytes.specs.declared.model.ApplyFault.{ApplyFault}
@@ -16,8 +18,8 @@ use Rattle.rk_bytes.specs.declared.model.ManifestFault.TheVariants.{Damaged, Bad
 use Rattle.rk_bytes.specs.declared.model.FileMeta.{FileMeta}
 use Rattle.rk_bytes.specs.declared.model.FamilyState.{FamilyState}
 use Rattle.rk_bytes.specs.declared.model.Version.{Version}
-use Rattle.rk_bytes.specs.Model.Numbers.{◌>>=◌}
-use Rattle.rk_bytes.specs.Model.InternalKey.{key_cmp}
+use Rattle.rk_bytes.specs.Model.Numbers.{◌>>=◌, in_turn}
+use Rattle.rk_bytes.specs.Model.InternalKey.{key_cmp, internal_key}
 use Rattle.rk_bytes.specs.Model.LogItems.{Item, rec, gap, end, log_items}
 use Rattle.rk_bytes.specs.Model.VersionEdit.{Field, NewFile, comparator, log_number, next_file, last_sequence, delete_file, add_file, least_log, family, family_add, family_drop, greatest_family, group, comparator_in, log_number_in, next_file_in, last_sequence_in, deleted_in, added_in, least_log_in, family_in, family_add_in, drops_family, greatest_family_in, group_in, edit_fields}
 
@@ -239,3 +241,88 @@ last_version read = do
 -- the least number of a log that may hold records that no table holds
 abbrev pub first_log : Version → ℕ
 first_log version = max version.least_log (unwrap_or (reduce min (map (λ live. live.log) version.families)) 0)
+
+-- a log of these records
+logged : List (List ℕ) → List Item
+logged [] = end Clean 0 ∷ []
+logged (bytes ∷ records) = rec bytes 0 ∷ logged records
+
+-- the edit of a new database, as bytes and as fields
+first_edit : List ℕ
+first_edit = codes "\x01\x1aleveldb.BytewiseComparator\x02\x03\x03\x04\x04\x00"
+
+first_fields : List Field
+first_fields = comparator (codes "leveldb.BytewiseComparator") ∷ log_number 3 ∷ next_file 4 ∷ last_sequence 0 ∷ []
+
+-- an edit that states how many more of its group come
+left : ℕ → List ℕ
+left n = 0xAC ∷ 2 ∷ n ∷ []
+
+of_an_unfinished_group : units_of_items (logged (first_edit ∷ left 2 ∷ left 1 ∷ []))
+    ≡ record { units = record { edits = first_fields ∷ []; is_group = false } ∷ []; fault = None }
+unfolding logged first_edit first_fields left units_from edits_of fault_after edit_fields in_turn
+of_an_unfinished_group = refl
+
+of_a_group_that_does_not_fall : units_of_items (logged (first_edit ∷ left 2 ∷ left 1 ∷ left 1 ∷ []))
+    ≡ record { units = record { edits = first_fields ∷ []; is_group = false } ∷ []; fault = Some (BadGroup 2) }
+unfolding logged first_edit first_fields left units_from edits_of fault_after edit_fields in_turn
+of_a_group_that_does_not_fall = refl
+
+of_a_whole_group : units_of_items (logged (left 1 ∷ left 0 ∷ (2 ∷ 9 ∷ []) ∷ []))
+    ≡ record {
+      units = record { edits = (group 1 ∷ []) ∷ (group 0 ∷ []) ∷ []; is_group = true } ∷ record { edits = (log_number 9 ∷ []) ∷ []; is_group = false } ∷ [];
+      fault = None;
+    }
+unfolding logged left units_from edits_of fault_after edit_fields in_turn
+of_a_whole_group = refl
+
+-- a fault within a group is one of the unit that the group would be
+of_a_bad_edit_in_a_group : units_of_items (logged (left 2 ∷ left 1 ∷ (0x66 ∷ []) ∷ [])) ≡ record { units = []; fault = Some (BadEdit 1 (Read (UnsupportedTag 102 0))) }
+unfolding logged left units_from edits_of fault_after edit_fields in_turn
+of_a_bad_edit_in_a_group = refl
+
+of_a_gap : units_of_items (rec (2 ∷ 9 ∷ []) 0 ∷ gap Checksum 9 ∷ end Clean 20 ∷ [])
+    ≡ record { units = record { edits = (log_number 9 ∷ []) ∷ []; is_group = false } ∷ []; fault = Some (Damaged 9 (Gap Checksum)) }
+unfolding units_from edits_of fault_after edit_fields in_turn
+of_a_gap = refl
+
+of_a_new_database : last_version (units_of_items (logged (first_edit ∷ []))) ≡ Ok (record {
+  families = record { id = 0; name = codes "default"; log = 3; files = [] } ∷ [];
+  log_seen = true;
+  next_file = Some 4;
+  last_sequence = Some 0;
+  least_log = 0;
+  greatest_family = 0;
+})
+unfolding logged first_edit units_from edits_of fault_after edit_fields in_turn each edit_step overlap unit_step version_after
+of_a_new_database = refl
+
+of_no_edit : last_version (units_of_items (logged [])) ≡ Err (NoFields LogNumber)
+unfolding logged units_from edits_of fault_after version_after
+of_no_edit = refl
+
+-- A refused unit comes first, here one that speaks of family 1.
+of_an_unknown_family : last_version (units_of_items (logged ((0xC8 ∷ 1 ∷ 1 ∷ []) ∷ (0x66 ∷ []) ∷ []))) ≡ Err (BadEdit 1 (Apply (UnknownFamily 1)))
+unfolding logged units_from edits_of fault_after edit_fields in_turn each edit_step unit_step version_after
+of_an_unknown_family = refl
+
+-- the unit of one edit that adds two files of one level, the second with this least key
+two_files : ℕ → List ℕ → ManifestUnit
+two_files level smallest = record {
+  edits = (add_file (record { level = level; number = 7; size = 9; smallest = internal_key (codes "c") 5 Value; largest = internal_key (codes "d") 5 Value; seqs = None })
+    ∷ add_file (record { level = level; number = 6; size = 9; smallest = smallest; largest = internal_key (codes "e") 5 Value; seqs = None }) ∷ []) ∷ [];
+  is_group = false;
+}
+
+of_files_that_meet : unit_step (two_files 2 (internal_key (codes "d") 5 Value)) first_version ≡ Err (Overlap 0 2)
+unfolding two_files each edit_step overlap unit_step
+of_files_that_meet = refl
+
+-- an older record of the same user key lies beyond
+of_files_apart : is_ok (unit_step (two_files 2 (internal_key (codes "d") 4 Value)) first_version) ≡ true
+unfolding two_files each edit_step overlap unit_step
+of_files_apart = refl
+
+of_files_at_level_0 : is_ok (unit_step (two_files 0 (internal_key (codes "d") 5 Value)) first_version) ≡ true
+unfolding two_files each edit_step overlap unit_step
+of_files_at_level_0 = refl
