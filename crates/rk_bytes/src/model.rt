@@ -1,6 +1,14 @@
 //! The definitions of RocksDB's formats. They stand in `specs/Model`, over plain lists and numbers;
 //! here are the types that they share with the code, and the laws that hold of them.
 
+ghost use Rattle.std.specs.Prelude.{◌≡◌, ℕ, ◌^◌, ◌<◌, ◌≤◌, List, ◌++◌, length, All};
+ghost use Rattle.std.specs.declared.cmp.Ordering.TheVariants.{Equal};
+ghost use Rattle.std.specs.Cmp.{IsTotalOrder};
+ghost use Rattle.rk_bytes.specs.Model.Numbers.{varint_of, varint32_at, varint64_at};
+ghost use Rattle.rk_bytes.specs.Model.Checksums.{crc32c, crc32c_extended, mask, unmask};
+ghost use Rattle.rk_bytes.specs.Model.InternalKey.{key_cmp};
+ghost use Rattle.rk_bytes.specs.Model.Records.{last_records, over, place_cmp};
+
 use crate::{Bytes, Seq};
 
 /// Why a number or a part doesn't read.
@@ -266,4 +274,42 @@ pub enum CurrentFault {
     Trailing,
     /// What stands before the newline is no manifest's name.
     NotManifest,
+}
+
+/// A law: a mask loses nothing of a sum.
+pub fn mask_round_trip()
+    ensures { (sum : ℕ) → sum < 2 ^ 32 → unmask (mask sum) ≡ sum }
+{
+}
+
+/// A law: a sum is extended by the bytes that follow.
+pub fn crc32c_of_appended()
+    ensures { (front bytes : List ℕ) → crc32c_extended (crc32c front) bytes ≡ crc32c (front ++ bytes) }
+{
+}
+
+/// A law: a number's shortest varint is read again, whatever follows it.
+pub fn varint_round_trip()
+    ensures narrow { (n : ℕ) (rest : List ℕ) → n < 2 ^ 32 → varint32_at (varint_of n ++ rest) ≡ Ok (n, rest) }
+    ensures wide { (n : ℕ) (rest : List ℕ) → n < 2 ^ 64 → varint64_at (varint_of n ++ rest) ≡ Ok (n, rest) }
+{
+}
+
+/// A law: internal keys are in a total order, in which no two keys of 8 bytes at least stand at one place.
+pub fn key_order()
+    ensures total { IsTotalOrder key_cmp }
+    ensures only_equal { (a b : List ℕ) → 8 ≤ length a → 8 ≤ length b → All (λ x. x < 256) a → All (λ x. x < 256) b → key_cmp a b ≡ Equal → a ≡ b }
+{
+}
+
+/// A law: places are in a total order.
+pub fn place_order()
+    ensures { IsTotalOrder place_cmp }
+{
+}
+
+/// A law: the last records of a list after another lie over those of the other.
+pub fn last_of_appended()
+    ensures { (a b : List Record) → last_records (a ++ b) ≡ over (last_records a) (last_records b) }
+{
 }

@@ -1,0 +1,3 @@
+mod Varints
+mod Orders
+mod RecordMaps
