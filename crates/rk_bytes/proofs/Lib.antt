@@ -1,3 +1,4 @@
-mod Varints
-mod Orders
-mod RecordMaps
+pub mod InTurn
+pub mod Varints
+pub mod Orders
+pub mod RecordMaps

@@ -1,8 +1,8 @@
 -- Internal keys and places are in a total order.
-use Rattle.std.proofs.Common.{◌≡◌, ℕ, zero, suc, ◌+◌, ◌-◌, ◌*◌, ◌<◌, ◌≤◌, List, [], ◌∷◌, ◌++◌, length, take, drop, get_or, All, refl, sym, ap, ◌∙◌, arith, length-drop, take-append-drop, get_or-drop}
+use Rattle.std.proofs.Common.{◌≡◌, ℕ, suc, ◌+◌, ◌-◌, ◌<◌, ◌≤◌, List, [], ◌∷◌, ◌++◌, length, drop, All, refl, sym, ◌∙◌, arith, length-drop, take-append-drop, get_or-drop}
 use Rattle.std.specs.declared.cmp.Ordering.{Ordering}
 use Rattle.std.specs.declared.cmp.Ordering.TheVariants.{Less, Equal, Greater}
-use Rattle.std.specs.Ordering.{ordering_then, nat_cmp, on, flip_args}
+use Rattle.std.specs.Ordering.{ordering_then, nat_cmp}
 use Rattle.std.specs.Cmp.{IsTotalOrder, on_total, back_total, then_total, nat_cmp_total}
 use Rattle.std.specs.Cmp.Lexicographic.{slice_cmp, nat_list_cmp_total}
 use Rattle.std.specs.FinMap.{IsAntisymmetric, nat_cmp-IsAntisymmetric, slice_cmp-IsAntisymmetric}
@@ -14,9 +14,10 @@ pub key_cmp-total : IsTotalOrder key_cmp
 key_cmp-total = then_total (on_total user_key nat_list_cmp_total) (back_total (on_total packed nat_cmp_total))
 
 pub place_cmp-total : IsTotalOrder place_cmp
+unfolding place_cmp
 place_cmp-total =
     then_total (on_total (λ (p : Place). p.family) nat_cmp_total) (then_total (on_total (λ (p : Place). p.user) nat_list_cmp_total)
-      (then_total (on_total (λ (p : Place). p.packed) (back_total nat_cmp_total)) (on_total (λ (p : Place). p.end) nat_list_cmp_total)))
+    (then_total (on_total (λ (p : Place). p.packed) (back_total nat_cmp_total)) (on_total (λ (p : Place). p.end) nat_list_cmp_total)))
 
 both_equal : (r s : Ordering) → ordering_then r s ≡ Equal → (r ≡ Equal) × (s ≡ Equal)
 both_equal Less s e = cc
@@ -27,6 +28,7 @@ same_text : IsAntisymmetric (slice_cmp nat_cmp)
 same_text = slice_cmp-IsAntisymmetric nat_cmp-IsAntisymmetric
 
 pub place_cmp-only_equal : IsAntisymmetric place_cmp
+unfolding place_cmp
 place_cmp-only_equal p q e =
     let a = both_equal (nat_cmp p.family q.family) _ e in
     let b = both_equal (slice_cmp nat_cmp p.user q.user) _ a.1 in
@@ -64,5 +66,5 @@ key_cmp-only_equal a b a-long b-long a-bytes b-bytes e =
     let users = same_text (user_key a) (user_key b) parts.0 in
     let number : packed a ≡ packed b = sym (nat_cmp-IsAntisymmetric (packed b) (packed a) parts.1) in
     let ends = little_endian-only_equal (drop (length a - 8) a) (drop (length b - 8) b) (length-end a a-long ∙ sym (length-end b b-long))
-      (All-drop (length a - 8) a a-bytes) (All-drop (length b - 8) b b-bytes) number in
+    (All-drop (length a - 8) a a-bytes) (All-drop (length b - 8) b b-bytes) number in
     sym (take-append-drop (length a - 8) a) ∙ (λ i. users i ++ ends i) ∙ take-append-drop (length b - 8) b

@@ -279,37 +279,31 @@ pub enum CurrentFault {
 /// A law: a mask loses nothing of a sum.
 pub fn mask_round_trip()
     ensures { (sum : ℕ) → sum < 2 ^ 32 → unmask (mask sum) ≡ sum }
-{
-}
+{}
 
 /// A law: a sum is extended by the bytes that follow.
 pub fn crc32c_of_appended()
     ensures { (front bytes : List ℕ) → crc32c_extended (crc32c front) bytes ≡ crc32c (front ++ bytes) }
-{
-}
+{}
 
 /// A law: a number's shortest varint is read again, whatever follows it.
 pub fn varint_round_trip()
     ensures narrow { (n : ℕ) (rest : List ℕ) → n < 2 ^ 32 → varint32_at (varint_of n ++ rest) ≡ Ok (n, rest) }
     ensures wide { (n : ℕ) (rest : List ℕ) → n < 2 ^ 64 → varint64_at (varint_of n ++ rest) ≡ Ok (n, rest) }
-{
-}
+{}
 
 /// A law: internal keys are in a total order, in which no two keys of 8 bytes at least stand at one place.
 pub fn key_order()
     ensures total { IsTotalOrder key_cmp }
     ensures only_equal { (a b : List ℕ) → 8 ≤ length a → 8 ≤ length b → All (λ x. x < 256) a → All (λ x. x < 256) b → key_cmp a b ≡ Equal → a ≡ b }
-{
-}
+{}
 
 /// A law: places are in a total order.
 pub fn place_order()
     ensures { IsTotalOrder place_cmp }
-{
-}
+{}
 
 /// A law: the last records of a list after another lie over those of the other.
 pub fn last_of_appended()
     ensures { (a b : List Record) → last_records (a ++ b) ≡ over (last_records a) (last_records b) }
-{
-}
+{}

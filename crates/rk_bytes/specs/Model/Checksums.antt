@@ -81,7 +81,7 @@ xxh32_sum place start stripes = fold (λ sum stripe. xxh32_round sum (lane_at 4 
 unfoldable pub xxh32_of_stripes : List (List ℕ) → ℕ
 xxh32_of_stripes stripes =
     (rotate_left w32 (xxh32_sum 0 ((prime32_1 + prime32_2) % 2 ^ 32) stripes) 1 + rotate_left w32 (xxh32_sum 1 prime32_2 stripes) 7
-      + rotate_left w32 (xxh32_sum 2 0 stripes) 12 + rotate_left w32 (xxh32_sum 3 (2 ^ 32 - prime32_1) stripes) 18) % 2 ^ 32
+    + rotate_left w32 (xxh32_sum 2 0 stripes) 12 + rotate_left w32 (xxh32_sum 3 (2 ^ 32 - prime32_1) stripes) 18) % 2 ^ 32
 
 abbrev pub xxh32_with_word : ℕ → List ℕ → ℕ
 xxh32_with_word hash word = rotate_left w32 ((hash + little_endian word * prime32_3) % 2 ^ 32) 17 * prime32_4 % 2 ^ 32

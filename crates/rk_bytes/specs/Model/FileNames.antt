@@ -1,6 +1,6 @@
 -- The names of a database's files, and the text of CURRENT (file/filename.cc). Names below `lost/`, and that
 -- a name counts only as it is printed here, are this project's own rules.
-use Rattle.std.specs.Prelude.{◌≡◌, ◌≢◌, ℕ, zero, suc, ◌+◌, ◌-◌, ◌^◌, ◌<◌, ◌&&◌, List, [], ◌∷◌, ◌++◌, length, take, drop, replicate, position, nat_eq, nat_lt, ◌==◌, if◌then◌else◌, Option, Some, None, option_map, unwrap_or, ok_or, Result, Ok, Err, Contains, bytes_eq, codes, refl}
+use Rattle.std.specs.Prelude.{◌≡◌, ℕ, zero, suc, ◌+◌, ◌-◌, ◌^◌, ◌<◌, ◌&&◌, List, [], ◌∷◌, ◌++◌, length, take, drop, replicate, position, nat_eq, nat_lt, ◌==◌, if◌then◌else◌, Option, Some, None, option_map, unwrap_or, ok_or, Result, Ok, Err, Contains, bytes_eq, codes, refl}
 use Rattle.std.specs.List.{starts_with}
 use Rattle.std.specs.Option.{option_or}
 use Rattle.std.specs.Fmt.{digits, decimal}
@@ -56,8 +56,8 @@ lost_prefix = codes "lost/"
 abbrev pub numbered_name : List ℕ → Option FileName
 numbered_name text =
     option_or (option_map Manifest (manifest_number text))
-      (option_or (option_map Log (number_before 4 log_name text))
-        (option_or (option_map Table (number_before 4 table_name text)) (option_map Temp (number_before 6 temp_name text))))
+    (option_or (option_map Log (number_before 4 log_name text))
+    (option_or (option_map Table (number_before 4 table_name text)) (option_map Temp (number_before 6 temp_name text))))
 
 -- The name that the text is.
 unfoldable pub name_of : List ℕ → FileName

@@ -1,6 +1,6 @@
 -- Internal keys: a user key, a sequence number and a kind (db/dbformat.h). Which kinds are refused is
 -- this project's own rule.
-use Rattle.std.specs.Prelude.{◌≡◌, ℕ, ◌+◌, ◌-◌, ◌*◌, ◌/◌, ◌%◌, ◌^◌, ◌&&◌, List, [], ◌∷◌, ◌++◌, length, take, drop, find, nat_lt, nat_le, ◌==◌, if◌then◌else◌, Option, Some, None, option_map, ok_or, Result, Ok, Err, codes, refl}
+use Rattle.std.specs.Prelude.{◌≡◌, ℕ, ◌+◌, ◌-◌, ◌*◌, ◌/◌, ◌%◌, ◌^◌, ◌&&◌, List, [], ◌∷◌, ◌++◌, length, take, drop, find, nat_lt, nat_le, ◌==◌, if◌then◌else◌, Option, option_map, ok_or, Result, Ok, Err, codes, refl}
 use Rattle.std.specs.declared.cmp.Ordering.{Ordering}
 use Rattle.std.specs.declared.cmp.Ordering.TheVariants.{Less, Greater}
 use Rattle.std.specs.Ordering.{nat_cmp, ordering_then}
@@ -31,7 +31,7 @@ top_sequence = 2 ^ 56 - 1
 abbrev pub packed_of : ℕ → Kind → ℕ
 packed_of sequence kind = sequence * 256 + kind_number kind
 
-abbrev pub internal_key : List ℕ → ℕ → Kind → List ℕ
+unfoldable pub internal_key : List ℕ → ℕ → Kind → List ℕ
 internal_key user sequence kind = user ++ fixed_of 8 (packed_of sequence kind)
 
 -- the user key and the number after it, of a key of at least 8 bytes
@@ -61,6 +61,7 @@ key_parts key =
     else ok_or (option_map (λ kind. record { user = user_key key; sequence = packed key / 256; kind = kind }) (kind_of number)) (without_kind number)
 
 a_put : internal_key (codes "a") 1 Value ≡ 0x61 ∷ 0x01 ∷ 0x01 ∷ 0 ∷ 0 ∷ 0 ∷ 0 ∷ 0 ∷ 0 ∷ []
+unfolding internal_key
 a_put = refl
 
 parts_of_a_put : key_parts (0x61 ∷ 0x01 ∷ 0x01 ∷ 0 ∷ 0 ∷ 0 ∷ 0 ∷ 0 ∷ 0 ∷ []) ≡ Ok (record { user = codes "a"; sequence = 1; kind = Value })
@@ -76,7 +77,9 @@ of_seven_bytes : key_parts (0 ∷ 0 ∷ 0 ∷ 0 ∷ 0 ∷ 0 ∷ 0 ∷ []) ≡ Er
 of_seven_bytes = refl
 
 newer_first : key_cmp (internal_key (codes "a") 2 Deletion) (internal_key (codes "a") 1 Value) ≡ Less
+unfolding internal_key
 newer_first = refl
 
 longer_later : key_cmp (internal_key (codes "ab") 2 Value) (internal_key (codes "a") 1 Value) ≡ Greater
+unfolding internal_key
 longer_later = refl

@@ -1,6 +1,6 @@
 -- Units of a manifest, and the version that they amount to (RocksDB's wiki, "MANIFEST", and db/version_edit_handler.cc). The order
 -- of the refusals, and which number counts where one is stated twice, are this project's own rules.
-use Rattle.std.specs.Prelude.{◌≡◌, ℕ, zero, suc, ◌+◌, ◌-◌, ◌^◌, Bool, true, false, not, ◌&&◌, ◌||◌, List, [], ◌∷◌, ◌++◌, length, map, take, filter, filter_map, find, min, max, is_none, is_some, nat_eq, nat_lt, nat_le, ◌==◌, if◌then◌else◌, Option, Some, None, option_map, unwrap_or, is_ok, Result, Ok, Err, bytes_eq, codes, refl}
+use Rattle.std.specs.Prelude.{◌≡◌, ℕ, zero, suc, ◌-◌, Bool, true, false, not, ◌&&◌, ◌||◌, List, [], ◌∷◌, ◌++◌, length, map, take, filter, filter_map, find, min, max, is_none, is_some, nat_eq, nat_lt, nat_le, ◌==◌, if◌then◌else◌, Option, Some, None, option_map, unwrap_or, is_ok, Result, Ok, Err, bytes_eq, codes, refl}
 use Rattle.std.specs.List.{list_any, list_all, last_or, reduce, range_with_len}
 use Rattle.std.specs.Option.{option_eq, option_or, option_map_or}
 use Rattle.std.specs.Ordering.{nat_cmp, is_lt, ordering_then}
@@ -21,7 +21,7 @@ use Rattle.rk_bytes.specs.declared.model.Version.{Version}
 use Rattle.rk_bytes.specs.Model.Numbers.{◌>>=◌, in_turn}
 use Rattle.rk_bytes.specs.Model.InternalKey.{key_cmp, internal_key}
 use Rattle.rk_bytes.specs.Model.LogItems.{Item, rec, gap, end, log_items}
-use Rattle.rk_bytes.specs.Model.VersionEdit.{Field, NewFile, comparator, log_number, next_file, last_sequence, delete_file, add_file, least_log, family, family_add, family_drop, greatest_family, group, comparator_in, log_number_in, next_file_in, last_sequence_in, deleted_in, added_in, least_log_in, family_in, family_add_in, drops_family, greatest_family_in, group_in, edit_fields}
+use Rattle.rk_bytes.specs.Model.VersionEdit.{Field, NewFile, comparator, log_number, next_file, last_sequence, add_file, group, comparator_in, log_number_in, next_file_in, last_sequence_in, deleted_in, added_in, least_log_in, family_in, family_add_in, drops_family, greatest_family_in, group_in, edit_fields}
 
 -- A unit is an edit by itself, or the edits of a group.
 pub record ManifestUnit : Type 0 where
@@ -66,10 +66,10 @@ units_from fault number (suc inside) (edit ∷ edits) = units_from fault number 
 units_from fault number zero (edit ∷ edits) = elim (stated group_in edit) [
   | None ↦ with_unit (record { edits = edit ∷ []; is_group = false }) (units_from fault (suc number) 0 edits)
   | Some n ↦
-    let members = take (suc n) (edit ∷ edits) in
-    if not (falls n members) then record { units = []; fault = Some (BadGroup number) }
-    else (if nat_le (length members) n then record { units = []; fault = fault number }
-    else with_unit (record { edits = members; is_group = true }) (units_from fault (suc number) n edits))
+      let members = take (suc n) (edit ∷ edits) in
+      if not (falls n members) then record { units = []; fault = Some (BadGroup number) }
+      else (if nat_le (length members) n then record { units = []; fault = fault number }
+      else with_unit (record { edits = members; is_group = true }) (units_from fault (suc number) n edits))
 ]
 
 abbrev pub units_of_items : List Item → Units
@@ -128,11 +128,11 @@ drop_family id families = filter (λ live. not (has_id id live)) families
 abbrev pub family_step : List Field → Version → Result Version ApplyFault
 family_step edit version = let id = edit_family edit in elim (stated family_add_in edit) [
   | Some name ↦
-    if list_any (has_id id) version.families || list_any (has_name name) version.families then Err (FamilyExists id)
-    else Ok (with_families (add_family id name) version)
+      if list_any (has_id id) version.families || list_any (has_name name) version.families then Err (FamilyExists id)
+      else Ok (with_families (add_family id name) version)
   | None ↦
-    if not (list_any (has_id id) version.families) then Err (UnknownFamily id)
-    else Ok (if list_any drops_family edit then with_families (drop_family id) version else version)
+      if not (list_any (has_id id) version.families) then Err (UnknownFamily id)
+      else Ok (if list_any drops_family edit then with_families (drop_family id) version else version)
 ]
 
 abbrev pub has_number : ℕ → FileMeta → Bool
@@ -249,7 +249,7 @@ logged (bytes ∷ records) = rec bytes 0 ∷ logged records
 
 -- the edit of a new database, as bytes and as fields
 first_edit : List ℕ
-first_edit = codes "\x01\x1aleveldb.BytewiseComparator\x02\x03\x03\x04\x04\x00"
+first_edit = 1 ∷ 26 ∷ codes "leveldb.BytewiseComparator" ++ 2 ∷ 3 ∷ 3 ∷ 4 ∷ 4 ∷ 0 ∷ []
 
 first_fields : List Field
 first_fields = comparator (codes "leveldb.BytewiseComparator") ∷ log_number 3 ∷ next_file 4 ∷ last_sequence 0 ∷ []
@@ -310,19 +310,19 @@ of_an_unknown_family = refl
 two_files : ℕ → List ℕ → ManifestUnit
 two_files level smallest = record {
   edits = (add_file (record { level = level; number = 7; size = 9; smallest = internal_key (codes "c") 5 Value; largest = internal_key (codes "d") 5 Value; seqs = None })
-    ∷ add_file (record { level = level; number = 6; size = 9; smallest = smallest; largest = internal_key (codes "e") 5 Value; seqs = None }) ∷ []) ∷ [];
+      ∷ add_file (record { level = level; number = 6; size = 9; smallest = smallest; largest = internal_key (codes "e") 5 Value; seqs = None }) ∷ []) ∷ [];
   is_group = false;
 }
 
 of_files_that_meet : unit_step (two_files 2 (internal_key (codes "d") 5 Value)) first_version ≡ Err (Overlap 0 2)
-unfolding two_files each edit_step overlap unit_step
+unfolding two_files internal_key each edit_step overlap unit_step
 of_files_that_meet = refl
 
 -- an older record of the same user key lies beyond
 of_files_apart : is_ok (unit_step (two_files 2 (internal_key (codes "d") 4 Value)) first_version) ≡ true
-unfolding two_files each edit_step overlap unit_step
+unfolding two_files internal_key each edit_step overlap unit_step
 of_files_apart = refl
 
 of_files_at_level_0 : is_ok (unit_step (two_files 0 (internal_key (codes "d") 5 Value)) first_version) ≡ true
-unfolding two_files each edit_step overlap unit_step
+unfolding two_files internal_key each edit_step overlap unit_step
 of_files_at_level_0 = refl

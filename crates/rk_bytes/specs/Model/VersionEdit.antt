@@ -1,6 +1,6 @@
 -- Version edits: what a record of a manifest changes (db/version_edit.cc). The order of the tests, the bounds, and which tags
 -- are refused, are this project's own rules.
-use Rattle.std.specs.Prelude.{◌≡◌, ℕ, ◌+◌, ◌-◌, ◌/◌, ◌%◌, ◌^◌, zero, suc, Bool, true, false, not, ◌&&◌, ◌||◌, List, [], ◌∷◌, ◌++◌, length, find, slice_index, nat_le, ◌==◌, if◌then◌else◌, Option, Some, None, option_map, is_some, Result, Ok, Err, codes, refl}
+use Rattle.std.specs.Prelude.{◌≡◌, ℕ, ◌-◌, ◌/◌, ◌%◌, zero, suc, Bool, true, false, not, ◌&&◌, ◌||◌, List, [], ◌∷◌, ◌++◌, length, find, slice_index, nat_le, ◌==◌, if◌then◌else◌, Option, Some, None, option_map, is_some, Result, Ok, Err, codes, refl}
 use Rattle.std.specs.List.{list_any}
 use Rattle.rk_bytes.specs.declared.model.NumFault.TheVariants.{Cut, TooLarge}
 use Rattle.rk_bytes.specs.declared.model.Seqs.{Seqs}
@@ -205,7 +205,7 @@ field_at edit_len before bytes =
 unfoldable pub edit_fields : List ℕ → Result (List Field) EditFault
 edit_fields bytes = in_turn (field_at (length bytes)) (length bytes) [] bytes
 
-of_a_first_edit : edit_fields (codes "\x01\x1aleveldb.BytewiseComparator\x02\x03\x03\x04\x04\x00")
+of_a_first_edit : edit_fields (1 ∷ 26 ∷ codes "leveldb.BytewiseComparator" ++ 2 ∷ 3 ∷ 3 ∷ 4 ∷ 4 ∷ 0 ∷ [])
     ≡ Ok (comparator (codes "leveldb.BytewiseComparator") ∷ log_number 3 ∷ next_file 4 ∷ last_sequence 0 ∷ [])
 unfolding edit_fields in_turn
 of_a_first_edit = refl

@@ -1,6 +1,6 @@
 -- Write batches (db/write_batch.cc). The order of the tests, and which tags are refused, are this
 -- project's own rules.
-use Rattle.std.specs.Prelude.{◌≡◌, ℕ, ◌+◌, ◌-◌, ◌^◌, Bool, true, false, not, ◌&&◌, ◌||◌, List, [], ◌∷◌, ◌++◌, length, take, drop, find, filter_map, slice_index, nat_lt, nat_le, ◌==◌, if◌then◌else◌, Option, Some, None, Result, Ok, Err, codes, refl}
+use Rattle.std.specs.Prelude.{◌≡◌, ℕ, ◌+◌, ◌-◌, ◌^◌, Bool, not, ◌&&◌, ◌||◌, List, [], ◌∷◌, ◌++◌, length, take, drop, find, filter_map, slice_index, nat_lt, nat_le, ◌==◌, if◌then◌else◌, Option, Some, None, Result, Ok, Err, replicate, codes, refl}
 use Rattle.std.specs.List.{list_any}
 use Rattle.rk_bytes.specs.declared.model.Kind.{Kind}
 use Rattle.rk_bytes.specs.declared.model.Kind.TheVariants.{Deletion, Value, Merge, SingleDeletion, RangeDeletion}
@@ -108,17 +108,19 @@ unfoldable pub batch_of : List ℕ → Result Batch BatchFault
 batch_of bytes = if nat_lt (length bytes) 12 then Err TooSmall else (do
   parts ← parts_after_header bytes
   if not (stated_count bytes == change_count parts) then Err (WrongCount (stated_count bytes) (change_count parts))
-    else (if nat_lt top_sequence (batch_sequence bytes + (change_count parts - 1)) then Err SequenceTop
-    else Ok (record { sequence = batch_sequence bytes; parts = parts })))
+      else (if nat_lt top_sequence (batch_sequence bytes + (change_count parts - 1)) then Err SequenceTop
+      else Ok (record { sequence = batch_sequence bytes; parts = parts })))
 
--- three puts after sequence number 5, with the count that is stated
+-- puts of `a`, `b` and `c` from sequence number 5 on, with the count that is stated
 three_puts : ℕ → List ℕ
-three_puts count = (5 ∷ 0 ∷ 0 ∷ 0 ∷ 0 ∷ 0 ∷ 0 ∷ 0 ∷ count ∷ 0 ∷ 0 ∷ 0 ∷ []) ++ codes "\x01\x01a\x011\x01\x01b\x012\x01\x01c\x013"
+three_puts count =
+    (5 ∷ 0 ∷ 0 ∷ 0 ∷ 0 ∷ 0 ∷ 0 ∷ 0 ∷ count ∷ 0 ∷ 0 ∷ 0 ∷ []) ++ (1 ∷ 1 ∷ codes "a") ++ (1 ∷ codes "1") ++ (1 ∷ 1 ∷ codes "b") ++ (1 ∷ codes "2")
+    ++ (1 ∷ 1 ∷ codes "c") ++ (1 ∷ codes "3")
 
 of_three_puts : batch_of (three_puts 3) ≡ Ok (record {
   sequence = 5;
   parts =
-    change 12 (record { family = 0; key = codes "a"; sequence = 5; kind = Value; value = codes "1" })
+      change 12 (record { family = 0; key = codes "a"; sequence = 5; kind = Value; value = codes "1" })
       ∷ change 17 (record { family = 0; key = codes "b"; sequence = 6; kind = Value; value = codes "2" })
       ∷ change 22 (record { family = 0; key = codes "c"; sequence = 7; kind = Value; value = codes "3" }) ∷ [];
 })
@@ -129,36 +131,34 @@ of_a_wrong_count : batch_of (three_puts 2) ≡ Err (WrongCount 2 3)
 unfolding batch_of in_turn three_puts
 of_a_wrong_count = refl
 
--- no change, and then these bytes, after the greatest sequence number
+-- a batch at the greatest sequence number, with the count that is stated and these records
 at_top : ℕ → List ℕ → List ℕ
-at_top count bytes = (0xFF ∷ 0xFF ∷ 0xFF ∷ 0xFF ∷ 0xFF ∷ 0xFF ∷ 0xFF ∷ 0 ∷ count ∷ 0 ∷ 0 ∷ 0 ∷ []) ++ bytes
+at_top count records = (0xFF ∷ 0xFF ∷ 0xFF ∷ 0xFF ∷ 0xFF ∷ 0xFF ∷ 0xFF ∷ 0 ∷ count ∷ 0 ∷ 0 ∷ 0 ∷ []) ++ records
 
--- of what is no change, none takes a number
-of_no_change : batch_of (at_top 0 (codes "\x0D\x03\x02xy")) ≡ Ok (record { sequence = 2 ^ 56 - 1; parts = noop 12 ∷ log_bytes 13 (codes "xy") ∷ [] })
+of_no_change : batch_of (at_top 0 (0xD ∷ 3 ∷ 2 ∷ codes "xy")) ≡ Ok (record { sequence = 2 ^ 56 - 1; parts = noop 12 ∷ log_bytes 13 (codes "xy") ∷ [] })
 unfolding batch_of in_turn at_top
 of_no_change = refl
 
--- the last change that has a number, and one more
-of_the_last_change : batch_of (at_top 1 (codes "\x04\x02\x01a")) ≡ Ok (record {
+of_the_last_change : batch_of (at_top 1 (4 ∷ 2 ∷ 1 ∷ codes "a")) ≡ Ok (record {
   sequence = 2 ^ 56 - 1;
   parts = change 12 (record { family = 2; key = codes "a"; sequence = 2 ^ 56 - 1; kind = Deletion; value = [] }) ∷ [];
 })
 unfolding batch_of in_turn at_top
 of_the_last_change = refl
 
-of_one_change_too_many : batch_of (at_top 2 (codes "\x00\x01a\x00\x01b")) ≡ Err SequenceTop
+of_one_change_too_many : batch_of (at_top 2 ((0 ∷ 1 ∷ codes "a") ++ (0 ∷ 1 ∷ codes "b"))) ≡ Err SequenceTop
 unfolding batch_of in_turn at_top
 of_one_change_too_many = refl
 
--- the first fault counts, not the count that is wrong as well
-of_a_cut_record : batch_of (at_top 0 (codes "\x0D\x01\x01a\x02x")) ≡ Err (BadRecord 13)
+-- The count is wrong as well, but is looked at later.
+of_a_cut_record : batch_of (at_top 0 (0xD ∷ 1 ∷ 1 ∷ 0x61 ∷ 2 ∷ codes "x")) ≡ Err (BadRecord 13)
 unfolding batch_of in_turn at_top
 of_a_cut_record = refl
 
-of_a_prepared_transaction : batch_of (at_top 0 (codes "\x0D\x09")) ≡ Err (UnsupportedTag 9)
+of_a_prepared_transaction : batch_of (at_top 0 (0xD ∷ 9 ∷ [])) ≡ Err (UnsupportedTag 9)
 unfolding batch_of in_turn at_top
 of_a_prepared_transaction = refl
 
-of_eleven_bytes : batch_of (5 ∷ 0 ∷ 0 ∷ 0 ∷ 0 ∷ 0 ∷ 0 ∷ 0 ∷ 0 ∷ 0 ∷ 0 ∷ []) ≡ Err TooSmall
+of_eleven_bytes : batch_of (replicate 11 0) ≡ Err TooSmall
 unfolding batch_of
 of_eleven_bytes = refl

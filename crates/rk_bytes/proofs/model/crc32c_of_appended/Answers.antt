@@ -1,5 +1,5 @@
 use Rattle.std.proofs.Common.{◌≡◌, ℕ, List, [], ◌∷◌, ◌++◌, bit_xor, refl, sym, ap, ◌∙◌}
-use Rattle.std.specs.Int.Bits.{xor_assoc, xor_self, xor_zero_r}
+use Rattle.std.specs.Int.Bits.{xor_assoc, xor_zero_r}
 use Rattle.rk_bytes.specs.Model.Checksums.{crc_bits, crc_bytes, crc32c, crc32c_extended}
 use Rattle.rk_bytes.proofs.model.crc32c_of_appended.Goals as goal
 
@@ -15,4 +15,4 @@ pub returns : goal.returns
 unfolding crc32c crc32c_extended
 returns c front bytes =
     ap (λ register. bit_xor (crc_bytes register bytes) 0xFFFFFFFF) (turned_back (crc_bytes 0xFFFFFFFF front))
-      ∙ ap (λ register. bit_xor register 0xFFFFFFFF) (sym (crc_bytes-append 0xFFFFFFFF front bytes))
+    ∙ ap (λ register. bit_xor register 0xFFFFFFFF) (sym (crc_bytes-append 0xFFFFFFFF front bytes))
