@@ -6,7 +6,7 @@ ghost use Rattle.std.specs.declared.cmp.Ordering.TheVariants.{Equal};
 ghost use Rattle.std.specs.Cmp.{IsTotalOrder};
 ghost use Rattle.rk_bytes.specs.Model.Numbers.{varint_of, varint32_at, varint64_at};
 ghost use Rattle.rk_bytes.specs.Model.Checksums.{crc32c, crc32c_extended, mask, unmask};
-ghost use Rattle.rk_bytes.specs.Model.InternalKey.{key_cmp};
+ghost use Rattle.rk_bytes.specs.Model.InternalKey.{internal_key, key_parts, key_cmp};
 ghost use Rattle.rk_bytes.specs.Model.Records.{last_records, over, place_cmp};
 
 use crate::{Bytes, Seq};
@@ -290,6 +290,11 @@ pub fn crc32c_of_appended()
 pub fn varint_round_trip()
     ensures narrow { (n : ℕ) (rest : List ℕ) → n < 2 ^ 32 → varint32_at (varint_of n ++ rest) ≡ Ok (n, rest) }
     ensures wide { (n : ℕ) (rest : List ℕ) → n < 2 ^ 64 → varint64_at (varint_of n ++ rest) ≡ Ok (n, rest) }
+{}
+
+/// A law: an internal key has the parts that it was made of.
+pub fn key_round_trip()
+    ensures { (user : List ℕ) (sequence : ℕ) (kind : Kind) → sequence < 2 ^ 56 → key_parts (internal_key user sequence kind) ≡ Ok (record { user = user; sequence = sequence; kind = kind }) }
 {}
 
 /// A law: internal keys are in a total order, in which no two keys of 8 bytes at least stand at one place.

@@ -41,6 +41,10 @@ user_key key = take (length key - 8) key
 abbrev pub packed : List ℕ → ℕ
 packed key = little_endian (drop (length key - 8) key)
 
+-- the name of the comparator that orders user keys by their bytes
+abbrev pub bytewise_name : List ℕ
+bytewise_name = codes "leveldb.BytewiseComparator"
+
 -- User keys rise by their bytes. Of one user key the numbers fall.
 abbrev pub key_cmp : List ℕ → List ℕ → Ordering
 key_cmp a b = ordering_then (slice_cmp nat_cmp (user_key a) (user_key b)) (nat_cmp (packed b) (packed a))

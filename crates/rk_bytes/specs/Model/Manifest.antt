@@ -1,7 +1,8 @@
--- Units of a manifest, and the version that they amount to (RocksDB's wiki, "MANIFEST", and db/version_edit_handler.cc). The order
--- of the refusals, and which number counts where one is stated twice, are this project's own rules.
-use Rattle.std.specs.Prelude.{◌≡◌, ℕ, zero, suc, ◌-◌, Bool, true, false, not, ◌&&◌, ◌||◌, List, [], ◌∷◌, ◌++◌, length, map, take, filter, filter_map, find, min, max, is_none, is_some, nat_eq, nat_lt, nat_le, ◌==◌, if◌then◌else◌, Option, Some, None, option_map, unwrap_or, is_ok, Result, Ok, Err, bytes_eq, codes, refl}
-use Rattle.std.specs.List.{list_any, list_all, last_or, reduce, range_with_len}
+-- Units of a manifest, and the version that they amount to (RocksDB's wiki, "MANIFEST", and
+-- db/version_edit_handler.cc). The order of the refusals, and which number counts where one is stated
+-- twice, are this project's own rules.
+use Rattle.std.specs.Prelude.{◌≡◌, ℕ, zero, suc, ◌-◌, Bool, true, false, not, ◌&&◌, ◌||◌, List, [], ◌∷◌, ◌++◌, length, map, take, filter, filter_map, min, max, is_none, is_some, nat_eq, nat_lt, nat_le, ◌==◌, if◌then◌else◌, Option, Some, None, option_map, unwrap_or, is_ok, Result, Ok, Err, bytes_eq, codes, refl}
+use Rattle.std.specs.List.{list_any, list_all, last_or, reduce}
 use Rattle.std.specs.Option.{option_eq, option_or, option_map_or}
 use Rattle.std.specs.Ordering.{nat_cmp, is_lt, ordering_then}
 use Rattle.rk_bytes.specs.declared.model.GapWhy.TheVariants.{Checksum}
@@ -19,7 +20,7 @@ use Rattle.rk_bytes.specs.declared.model.FileMeta.{FileMeta}
 use Rattle.rk_bytes.specs.declared.model.FamilyState.{FamilyState}
 use Rattle.rk_bytes.specs.declared.model.Version.{Version}
 use Rattle.rk_bytes.specs.Model.Numbers.{◌>>=◌, in_turn}
-use Rattle.rk_bytes.specs.Model.InternalKey.{key_cmp, internal_key}
+use Rattle.rk_bytes.specs.Model.InternalKey.{key_cmp, bytewise_name, internal_key}
 use Rattle.rk_bytes.specs.Model.LogItems.{Item, rec, gap, end, log_items}
 use Rattle.rk_bytes.specs.Model.VersionEdit.{Field, NewFile, comparator, log_number, next_file, last_sequence, add_file, group, comparator_in, log_number_in, next_file_in, last_sequence_in, deleted_in, added_in, least_log_in, family_in, family_add_in, drops_family, greatest_family_in, group_in, edit_fields}
 
@@ -58,8 +59,8 @@ falls n (edit ∷ edits) = option_eq nat_eq (stated group_in edit) (Some n) && f
 abbrev pub with_unit : ManifestUnit → Units → Units
 with_unit unit rest = record { units = unit ∷ rest.units; fault = rest.fault }
 
--- The units of edits that this fault follows; the first unit has this number, and the first `inside` edits belong to the unit
--- before. A group that the edits' end cuts off is no unit.
+-- The units of edits that this fault follows. The first unit has this number, and the first `inside`
+-- edits belong to the unit before. A group that the edits' end cuts off is no unit.
 unfoldable pub units_from : (ℕ → Option ManifestFault) → ℕ → ℕ → List (List Field) → Units
 units_from fault number inside [] = record { units = []; fault = fault number }
 units_from fault number (suc inside) (edit ∷ edits) = units_from fault number inside edits
@@ -102,7 +103,7 @@ abbrev pub edit_family : List Field → ℕ
 edit_family edit = unwrap_or (stated family_in edit) 0
 
 abbrev pub has_other_comparator : List Field → Bool
-has_other_comparator edit = option_map_or (λ name. not (bytes_eq name (codes "leveldb.BytewiseComparator"))) (stated comparator_in edit) false
+has_other_comparator edit = option_map_or (λ name. not (bytes_eq name bytewise_name)) (stated comparator_in edit) false
 
 abbrev pub has_id : ℕ → FamilyState → Bool
 has_id id live = live.id == id
@@ -167,7 +168,7 @@ file_steps edit version = do
 
 -- the greater of the number and the one that the edit states
 abbrev pub risen : ℕ → Option ℕ → ℕ
-risen n stated_one = max n (unwrap_or stated_one 0)
+risen n new = max n (unwrap_or new 0)
 
 abbrev pub with_numbers : List Field → Version → Version
 with_numbers edit version =
@@ -187,8 +188,8 @@ edit_step edit version = if has_other_comparator edit then Err UnsupportedCompar
   filed ← if list_any drops_family edit then Ok known else file_steps edit known
   Ok (with_numbers edit filed))
 
--- Of any two files of a level above 0, the one that comes first by its least key, and then by its number, ends below the other's
--- least key.
+-- Files are apart where of any two the one that comes first, by its least key and then by its number,
+-- ends below the other's least key.
 abbrev pub comes_before : FileMeta → FileMeta → Bool
 comes_before a b = is_lt (ordering_then (key_cmp a.smallest b.smallest) (nat_cmp a.number b.number))
 
@@ -198,10 +199,14 @@ ends_below a b = is_lt (key_cmp a.largest b.smallest)
 abbrev pub are_apart : List FileMeta → Bool
 are_apart files = list_all (λ a. list_all (λ b. not (comes_before a b) || ends_below a b) files) files
 
+abbrev pub overlap_at : List FileMeta → ℕ → Bool
+overlap_at files level = not (are_apart (filter (λ file. file.level == level) files))
+
 -- the lowest level above 0 at which files overlap
 abbrev pub overlapping_level : List FileMeta → Option ℕ
-overlapping_level files = find (λ level. not (are_apart (filter (λ file. file.level == level) files))) (range_with_len 1 255)
+overlapping_level files = reduce min (filter (λ level. nat_lt 0 level && overlap_at files level) (map (λ file. file.level) files))
 
+-- the lowest family with such a level
 unfoldable pub overlap : List FamilyState → Option ApplyFault
 overlap [] = None
 overlap (live ∷ families) = option_or (option_map (Overlap live.id) (overlapping_level live.files)) (overlap families)
@@ -232,7 +237,8 @@ complete version =
     else (if is_none version.next_file then Err (NoFields NextFile)
     else (if is_none version.last_sequence then Err (NoFields LastSequence) else Ok version))
 
--- The version after all units. A refused unit comes before a fault of reading, and that before a field that no edit states.
+-- The version after all units. A refused unit comes before a fault of reading, and that before a number
+-- that no edit states.
 abbrev pub last_version : Units → Result Version ManifestFault
 last_version read = do
   version ← version_at read.units (length read.units)

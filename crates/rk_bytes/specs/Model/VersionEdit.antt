@@ -1,5 +1,6 @@
--- Version edits: what a record of a manifest changes (db/version_edit.cc). The order of the tests, the bounds, and which tags
--- are refused, are this project's own rules.
+-- Version edits: what a record of a manifest changes (db/version_edit.cc). The order of the tests, the
+-- bounds, which tags are refused, and that any other tag with bit 8192 has a slice and is passed over, are
+-- this project's own rules.
 use Rattle.std.specs.Prelude.{◌≡◌, ℕ, ◌-◌, ◌/◌, ◌%◌, zero, suc, Bool, true, false, not, ◌&&◌, ◌||◌, List, [], ◌∷◌, ◌++◌, length, find, slice_index, nat_le, ◌==◌, if◌then◌else◌, Option, Some, None, option_map, is_some, Result, Ok, Err, codes, refl}
 use Rattle.std.specs.List.{list_any}
 use Rattle.rk_bytes.specs.declared.model.NumFault.TheVariants.{Cut, TooLarge}
@@ -18,7 +19,8 @@ pub record NewFile : Type 0 where
   pub largest : List ℕ
   pub seqs : Option Seqs
 
--- A compact cursor has a level and an internal key, a deleted file a level and a number, an ignored field its tag and value.
+-- A compact cursor has a level and an internal key, a deleted file a level and a number, an ignored
+-- field its tag and its value.
 pub data Field : Type 0 where
   comparator : List ℕ → Field
   log_number : ℕ → Field
@@ -85,7 +87,7 @@ abbrev pub group_in : Field → Option ℕ
 group_in (group left) = Some left
 group_in _ = None
 
--- Values that have bounds of their own: a level is at most 255, an internal key has 8 bytes at least.
+-- Values with bounds of their own: a level is at most 255, and an internal key has 8 bytes at least.
 abbrev pub level_at : List ℕ → Read ℕ
 level_at bytes = do
   level ← varint32_at bytes
@@ -130,8 +132,8 @@ sequenced_file_at bytes = do
   greatest ← varint64_at least.1
   Ok (record (file.0) { seqs = Some (record { least = least.0; greatest = greatest.0 }) }, greatest.1)
 
--- The bytes after a custom field of an added file, whose tag stands before these. A path's id has to be 0, in one byte. A tag
--- with bit 64 may not be passed over.
+-- The bytes after a custom field of an added file, whose tag stands before these. A path's id has to be
+-- 0, in one byte. Any other field may be passed over, unless its tag has bit 64.
 abbrev pub after_path : ℕ → List ℕ → List ℕ → Result (List ℕ) EditFault
 after_path place path bytes =
     if not (length path == 1) then Err (BadField 103 place)
@@ -144,7 +146,7 @@ after_custom place tag bytes =
       value ← reads_or (BadField 103 place) (prefixed_at bytes)
       if tag == 65 then after_path place value.0 value.1 else Ok value.1)
 
--- the bytes after all custom fields, of which there are at most n, and the tag 1 that ends them
+-- the bytes after the custom fields, of which there are fewer than n, and after the tag 1 that ends them
 unfoldable pub after_customs : ℕ → ℕ → List ℕ → Result (List ℕ) EditFault
 after_customs zero place bytes = Err (BadField 103 place)
 after_customs (suc n) place bytes = do
@@ -210,7 +212,7 @@ of_a_first_edit : edit_fields (1 ∷ 26 ∷ codes "leveldb.BytewiseComparator" +
 unfolding edit_fields in_turn
 of_a_first_edit = refl
 
--- the internal key of `a` = .. at sequence number 1
+-- the internal key of a put of `a` at sequence number 1
 put_a : List ℕ
 put_a = 0x61 ∷ 1 ∷ 1 ∷ 0 ∷ 0 ∷ 0 ∷ 0 ∷ 0 ∷ 0 ∷ []
 

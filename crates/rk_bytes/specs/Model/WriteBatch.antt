@@ -84,7 +84,8 @@ part_of_tag place sequence tag bytes =
       | None ↦ Err (BadRecord place)
     ]))
 
--- The part at the front of a batch's last bytes. A change's sequence number is the batch's and the number of changes before it.
+-- The part at the front of a batch's last bytes. A change's sequence number is the batch's and the number
+-- of changes before it.
 abbrev pub part_at : ℕ → ℕ → List Part → List ℕ → Result (Part × List ℕ) BatchFault
 part_at batch_len sequence before bytes =
     part_of_tag (batch_len - length bytes) (sequence + change_count before) (slice_index bytes 0) (drop 1 bytes)
