@@ -4,3 +4,7 @@ pub mod RestartLemmas
 pub mod BlockLaw
 pub mod EntryLemmas
 pub mod DeltaLemmas
+pub mod InTurn
+pub mod Varints
+pub mod Orders
+pub mod RecordMaps

@@ -1,8 +1,15 @@
 //! The definitions of RocksDB's formats. They stand in `specs/Model`, over plain lists and numbers;
-//! here are the enums that they share with the code, and the laws that hold of them.
-ghost use Rattle.std.specs.Prelude.{◌≡◌, ◌↔◌, ◌<◌, ◌^◌, ℕ, List, [], Ok};
+//! here are the types that they share with the code, and the laws that hold of them.
+
+ghost use Rattle.std.specs.Prelude.{◌≡◌, ◌↔◌, ℕ, ◌^◌, ◌<◌, ◌≤◌, List, [], ◌++◌, length, All, Ok};
 ghost use Rattle.std.specs.List.{AllByRecursion};
 ghost use Rattle.rk_bytes.specs.Model.BlockEntries.{Entry, IsBlock, SpellsEntry, block_entries, SpellsDeltaEntry, no_handle, delta_handles};
+ghost use Rattle.std.specs.declared.cmp.Ordering.TheVariants.{Equal};
+ghost use Rattle.std.specs.Cmp.{IsTotalOrder};
+ghost use Rattle.rk_bytes.specs.Model.Numbers.{varint_of, varint32_at, varint64_at};
+ghost use Rattle.rk_bytes.specs.Model.Checksums.{crc32c, crc32c_extended, mask, unmask};
+ghost use Rattle.rk_bytes.specs.Model.InternalKey.{internal_key, key_parts, key_cmp};
+ghost use Rattle.rk_bytes.specs.Model.Records.{last_records, over, place_cmp};
 
 use crate::{Bytes, Seq};
 
@@ -301,3 +308,198 @@ pub struct Record {
     /// Empty for a deletion. The end of a range deletion.
     pub value: Bytes,
 }
+
+/// Why a write batch doesn't read.
+#[derive(Clone, Copy, Debug, PartialEq, Eq)]
+pub enum BatchFault {
+    /// Fewer than 12 bytes.
+    TooSmall,
+    /// At this place of the batch no record reads.
+    BadRecord(u64),
+    /// The tag of a record that isn't supported.
+    UnsupportedTag(u8),
+    /// The batch states another number of changes than stand in it.
+    WrongCount { stated: u32, found: u64 },
+    /// The batch's sequence number, or that of its last change, is above the greatest one.
+    SequenceTop,
+}
+
+/// Why a version edit doesn't read. The place is that of the field's tag in the edit.
+#[derive(Clone, Copy, Debug, PartialEq, Eq)]
+pub enum EditFault {
+    /// The tag of no field.
+    UnknownTag { tag: u32, place: u64 },
+    /// The tag of a field that isn't supported.
+    UnsupportedTag { tag: u32, place: u64 },
+    /// The field with this tag doesn't read, or its value is refused.
+    BadField { tag: u32, place: u64 },
+}
+
+/// The least and the greatest sequence number in a table.
+#[derive(Clone, Copy, Debug, PartialEq, Eq)]
+pub struct Seqs {
+    pub least: u64,
+    pub greatest: u64,
+}
+
+/// What in a manifest's log is damaged.
+#[derive(Clone, Copy, Debug, PartialEq, Eq)]
+pub enum ManifestWhy {
+    /// A piece of the log is left out.
+    Gap(GapWhy),
+    /// A log record of a type that isn't supported.
+    Unsupported(u8),
+}
+
+/// Why a unit of a manifest isn't applied to the version before it.
+#[derive(Clone, Copy, Debug, PartialEq, Eq)]
+pub enum ApplyFault {
+    /// A comparator that isn't the bytewise one.
+    UnsupportedComparator,
+    /// A family is added whose id or name is there.
+    FamilyExists(u32),
+    /// The edit speaks of a family that isn't there.
+    UnknownFamily(u32),
+    /// A file is deleted that isn't in that family at that level.
+    DeleteAbsent(u64),
+    /// A file is added whose number is there.
+    AddPresent(u64),
+    /// Two files of this family and this level above 0 overlap.
+    Overlap { family: u32, level: u32 },
+}
+
+/// Why an edit of a manifest is bad.
+#[derive(Clone, Copy, Debug, PartialEq, Eq)]
+pub enum EditWhy {
+    /// It doesn't read.
+    Read(EditFault),
+    /// Its unit isn't applied.
+    Apply(ApplyFault),
+}
+
+/// What the edits of a manifest have to state.
+#[derive(Clone, Copy, Debug, PartialEq, Eq)]
+pub enum Which {
+    LogNumber,
+    NextFile,
+    LastSequence,
+}
+
+/// The first fault of a manifest. Units are numbered from 1.
+#[derive(Clone, Copy, Debug, PartialEq, Eq)]
+pub enum ManifestFault {
+    /// The log is damaged at this place.
+    Damaged { place: u64, why: ManifestWhy },
+    /// An edit of this unit is bad.
+    BadEdit { unit: u64, why: EditWhy },
+    /// An edit within the group of this unit doesn't state how many are left, or states another number.
+    BadGroup { unit: u64 },
+    /// The edits state no such number.
+    NoFields(Which),
+}
+
+/// A table that a version lists.
+#[derive(Debug, Drop)]
+pub struct FileMeta {
+    pub number: u64,
+    pub level: u32,
+    /// The file's length in bytes.
+    pub size: u64,
+    /// The least internal key.
+    pub smallest: Bytes,
+    /// The greatest internal key.
+    pub largest: Bytes,
+}
+
+/// A live column family.
+#[derive(Debug, Drop)]
+pub struct FamilyState {
+    pub id: u32,
+    pub name: Bytes,
+    /// The least number of a log that may hold records of the family that no table holds.
+    pub log: u64,
+    /// In rising number.
+    pub files: Seq<FileMeta>,
+}
+
+/// What the units of a manifest amount to.
+#[derive(Debug, Drop)]
+pub struct Version {
+    /// In rising id.
+    pub families: Seq<FamilyState>,
+    /// Some edit stated a log number.
+    pub log_seen: bool,
+    pub next_file: Option<u64>,
+    pub last_sequence: Option<u64>,
+    /// The least number of a log that is still needed.
+    pub least_log: u64,
+    /// The greatest id of a family so far.
+    pub greatest_family: u32,
+}
+
+/// What a file's name says of the file.
+#[derive(Clone, Copy, Debug, PartialEq, Eq)]
+pub enum FileName {
+    /// `CURRENT`, which names the manifest.
+    Current,
+    /// A manifest with its number.
+    Manifest(u64),
+    /// A log with its number.
+    Log(u64),
+    /// A table with its number.
+    Table(u64),
+    /// A temporary file with its number.
+    Temp(u64),
+    /// Below `lost/`.
+    Lost,
+    /// Any other name.
+    Other,
+}
+
+/// Why `CURRENT` names no manifest.
+#[derive(Clone, Copy, Debug, PartialEq, Eq)]
+pub enum CurrentFault {
+    /// There is no newline.
+    NoNewline,
+    /// Something follows the first newline.
+    Trailing,
+    /// What stands before the newline is no manifest's name.
+    NotManifest,
+}
+
+/// A law: a mask loses nothing of a sum.
+pub fn mask_round_trip()
+    ensures { (sum : ℕ) → sum < 2 ^ 32 → unmask (mask sum) ≡ sum }
+{}
+
+/// A law: a sum is extended by the bytes that follow.
+pub fn crc32c_of_appended()
+    ensures { (front bytes : List ℕ) → crc32c_extended (crc32c front) bytes ≡ crc32c (front ++ bytes) }
+{}
+
+/// A law: a number's shortest varint is read again, whatever follows it.
+pub fn varint_round_trip()
+    ensures narrow { (n : ℕ) (rest : List ℕ) → n < 2 ^ 32 → varint32_at (varint_of n ++ rest) ≡ Ok (n, rest) }
+    ensures wide { (n : ℕ) (rest : List ℕ) → n < 2 ^ 64 → varint64_at (varint_of n ++ rest) ≡ Ok (n, rest) }
+{}
+
+/// A law: an internal key has the parts that it was made of.
+pub fn key_round_trip()
+    ensures { (user : List ℕ) (sequence : ℕ) (kind : Kind) → sequence < 2 ^ 56 → key_parts (internal_key user sequence kind) ≡ Ok (record { user = user; sequence = sequence; kind = kind }) }
+{}
+
+/// A law: internal keys are in a total order, in which no two keys of 8 bytes at least stand at one place.
+pub fn key_order()
+    ensures total { IsTotalOrder key_cmp }
+    ensures only_equal { (a b : List ℕ) → 8 ≤ length a → 8 ≤ length b → All (λ x. x < 256) a → All (λ x. x < 256) b → key_cmp a b ≡ Equal → a ≡ b }
+{}
+
+/// A law: places are in a total order.
+pub fn place_order()
+    ensures { IsTotalOrder place_cmp }
+{}
+
+/// A law: the last records of a list after another lie over those of the other.
+pub fn last_of_appended()
+    ensures { (a b : List Record) → last_records (a ++ b) ≡ over (last_records a) (last_records b) }
+{}

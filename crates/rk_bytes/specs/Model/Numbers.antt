@@ -101,6 +101,21 @@ prefixed_at bytes = do
   len ← varint32_at bytes
   part_of len.0 len.1
 
+-- What is read, or this fault where it doesn't read.
+abbrev pub reads_or : {A F : Type 0} → F → Read A → Result (A × List ℕ) F
+reads_or fault (Ok one) = Ok one
+reads_or fault (Err why) = Err fault
+
+-- All that is read one after another from the front of bytes to their end, or the first fault. Each
+-- is read with those before it at hand, the last of them first. There are at most n bytes.
+unfoldable pub in_turn : {A F : Type 0} → (List A → List ℕ → Result (A × List ℕ) F) → ℕ → List A → List ℕ → Result (List A) F
+in_turn read zero before bytes = Ok []
+in_turn read (suc n) before [] = Ok []
+in_turn read (suc n) before (b ∷ bytes) = do
+  one ← read before (b ∷ bytes)
+  more ← in_turn read n (one.0 ∷ before) one.1
+  Ok (one.0 ∷ more)
+
 counts_up : little_endian (0x78 ∷ 0x56 ∷ 0x34 ∷ 0x12 ∷ []) ≡ 0x12345678
 counts_up = refl
 

@@ -13,7 +13,7 @@ use Rattle.rk_bytes.specs.declared.model.TrailerFault.TheVariants.{OutOfFile, Ch
 use Rattle.rk_bytes.specs.Model.Numbers.{little_endian, ◌>>=◌}
 use Rattle.rk_bytes.specs.Model.Checksums.{crc_bit, crc_bits, crc_bytes, crc32c}
 use Rattle.rk_bytes.specs.Model.BlockEntries.{with_fault, handle_at}
-use Rattle.rk_bytes.specs.Model.TableParts.{block_sum}
+use Rattle.rk_bytes.specs.Model.Checksums.{block_sum}
 
 -- the kind of checksum with this number
 abbrev pub sum_kind : ℕ → Result SumKind FooterFault

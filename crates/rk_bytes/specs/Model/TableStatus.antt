@@ -37,7 +37,7 @@ use Rattle.rk_bytes.specs.Model.Numbers.{Read, ◌>>=◌, fixed_at, varint_at, v
 use Rattle.rk_bytes.specs.Model.Checksums.{crc_bit, crc_bits, crc_bytes, crc32c}
 use Rattle.rk_bytes.specs.Model.BlockEntries.{Entry, with_fault, each, whole, block_entries, entries_after, whole_handles, index_entries}
 use Rattle.rk_bytes.specs.Model.TableFooter.{footer_of, footer_start, checked_block}
-use Rattle.rk_bytes.specs.Model.TableParts.{KeyParts, user_key, key_parts, internal_key, key_cmp, top_sequence, bytewise_name}
+use Rattle.rk_bytes.specs.Model.InternalKey.{KeyParts, user_key, key_parts, internal_key, key_cmp, top_sequence, bytewise_name}
 
 -- What a table's status is where it isn't good.
 pub data TableFault : Type 0 where
