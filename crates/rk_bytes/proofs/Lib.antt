@@ -1,2 +1,12 @@
 pub mod PartingLemmas
 pub mod CommandLemmas
+pub mod ReadingLemmas
+pub mod BlockLemmas
+pub mod RestartLemmas
+pub mod BlockLaw
+pub mod EntryLemmas
+pub mod DeltaLemmas
+pub mod InTurn
+pub mod Varints
+pub mod Orders
+pub mod RecordMaps

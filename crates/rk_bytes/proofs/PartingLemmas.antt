@@ -2,7 +2,7 @@
 use Rattle.std.proofs.Common.{◌≡◌, ℕ, true, false, cond, List, [], ◌∷◌, ◌++◌, Some, None, refl, sym, subst, ap, ◌∙◌, append_assoc}
 use Rattle.std.proofs.lemmas.List.{append-nil}
 use Rattle.std.proofs.lemmas.Bool.{false≢true}
-use Rattle.rk_bytes.specs.declared.model.GapWhy.TheVariants.{MissingEnd}
+use Rattle.rk_bytes.specs.declared.model.log.GapWhy.TheVariants.{MissingEnd}
 use Rattle.rk_bytes.specs.Model.LogMarks.{Mark, full, first, middle, last, fault, cut, stale, unsupported, file_end, is_end, up_to_end, log_marks}
 use Rattle.rk_bytes.specs.Model.LogItems.{Item, rec, gap, begins_record, middles, alone, closed, Parts, nothing, single, record_closed, record_broken, EndsOnce, parting}
 

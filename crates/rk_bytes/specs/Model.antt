@@ -4,4 +4,12 @@ pub mod LogMarks
 pub mod LogItems
 pub mod FileNames
 pub mod DiskImages
+pub mod BlockEntries
+pub mod TableFooter
+pub mod TableStatus
 pub mod Output
+pub mod InternalKey
+pub mod Records
+pub mod WriteBatch
+pub mod VersionEdit
+pub mod Manifest

@@ -5,7 +5,7 @@ use Rattle.rk_disk.specs.declared.sink.SinkErr.{SinkErr}
 use Rattle.rk_disk.specs.declared.sink.SinkErr.TheVariants as sink
 use Rattle.std.proofs.lemmas.List.{append-nil}
 use Rattle.rk_bytes.specs.Model.Output.{Took, TookLines, TookFront, joined}
-use Rattle.rk_bytes.specs.declared.model.Status.{Status}
+use Rattle.rk_bytes.specs.declared.model.status.Status.{Status}
 use Rattle.rk_bytes.specs.Model.DiskImages.{Rose, Counts}
 use Rattle.rk_disk.specs.Faults.{sink_failed}
 use Rattle.rk_ldb.specs.declared.stop.Stop.{Stop}

@@ -1,7 +1,7 @@
 -- What the statuses of a run say of what was taken.
 use Rattle.std.specs.Prelude.{ℕ, ◌<◌, ◌++◌, List, Option, length, take}
-use Rattle.rk_bytes.specs.declared.model.Status.{Status}
-use Rattle.rk_bytes.specs.declared.model.Status.TheVariants.{Done, Refused, Usage}
+use Rattle.rk_bytes.specs.declared.model.status.Status.{Status}
+use Rattle.rk_bytes.specs.declared.model.status.Status.TheVariants.{Done, Refused, Usage}
 use Rattle.rk_bytes.specs.Model.Output.{Took, joined}
 
 -- the status of a run that came to its output's end

@@ -2,9 +2,9 @@
 use Rattle.std.proofs.Common.{◌≡◌, ℕ, zero, suc, ◌+◌, ◌-◌, ◌*◌, ◌<◌, ◌≤◌, Bool, true, cond, not, ◌&&◌, List, [], ◌∷◌, length, get_or, take, drop, refl, sym, ap, ◌∙◌, arith, length-drop}
 use Rattle.std.specs.Prelude.{nat_lt, ◌==◌}
 use Rattle.std.proofs.Math.Seq.{drop-cons}
-use Rattle.rk_bytes.specs.declared.model.GapWhy.{GapWhy}
-use Rattle.rk_bytes.specs.declared.model.GapWhy.TheVariants.{Checksum, Length, UnknownType}
-use Rattle.rk_bytes.specs.declared.model.EndKind.{EndKind}
+use Rattle.rk_bytes.specs.declared.model.log.GapWhy.{GapWhy}
+use Rattle.rk_bytes.specs.declared.model.log.GapWhy.TheVariants.{Checksum, Length, UnknownType}
+use Rattle.rk_bytes.specs.declared.model.log.EndKind.{EndKind}
 use Rattle.rk_bytes.specs.Model.LogItems.{end, alone}
 use Rattle.rk_log.specs.Fragments.{IsEndMark, IsFirstMark}
 use Rattle.rk_bytes.specs.Model.LogMarks.{Mark, is_end, full, fault, cut, unsupported, Found, nothing, whole_rest, fragment, found, block_marks, stored_sum, header_len, fragment_len, payload_len, payload_of, type_of, has_right_sum, is_unread, is_unsupported}

@@ -2,8 +2,8 @@
 use Rattle.std.proofs.Common.{◌≡◌, ℕ, suc, ◌+◌, ◌-◌, ◌/◌, ◌<◌, min, true, false, cond, List, [], ◌∷◌, ◌++◌, length, take, drop, None, refl, sym, ap, subst, ◌∙◌, inl, inr, arith, length-drop, length-take}
 use Rattle.std.specs.Prelude.{◌==◌}
 use Rattle.std.proofs.lemmas.Bool.{cases_lt, false≢true}
-use Rattle.rk_bytes.specs.declared.model.EndKind.{EndKind}
-use Rattle.rk_bytes.specs.declared.model.EndKind.TheVariants.{Clean}
+use Rattle.rk_bytes.specs.declared.model.log.EndKind.{EndKind}
+use Rattle.rk_bytes.specs.declared.model.log.EndKind.TheVariants.{Clean}
 use Rattle.rk_bytes.specs.Model.LogMarks.{Mark, full, first, middle, last, fault, cut, stale, unsupported, file_end, is_end, block_len, block_marks, blocks_marks, block_count, up_to_end}
 use Rattle.rk_bytes.specs.Model.LogItems.{Item, end, alone, parting}
 use Rattle.rk_log.specs.declared.rest.Rest.{Rest}

@@ -1,6 +1,6 @@
 -- What the tests at the front of a block's rest show of its marks.
 use Rattle.std.specs.Prelude.{◌≡◌, ℕ, ◌+◌, ◌≤◌, Bool, true, List, [], ◌∷◌, length, drop}
-use Rattle.rk_bytes.specs.declared.model.EndKind.{EndKind}
+use Rattle.rk_bytes.specs.declared.model.log.EndKind.{EndKind}
 use Rattle.rk_bytes.specs.Model.LogMarks.{Mark, full, fault, is_end, block_marks}
 use Rattle.rk_bytes.specs.Model.LogItems.{end, alone}
 use Rattle.rk_log.specs.declared.fragment.Found.{Found}

@@ -1,13 +1,90 @@
--- The names of a database's files (file/filename.cc).
-use Rattle.std.specs.Prelude.{◌≡◌, ℕ, ◌-◌, List, ◌++◌, length, replicate, codes, refl}
+-- The names of a database's files, and the text of CURRENT (file/filename.cc). Names below `lost/`, and that
+-- a name counts only as it is printed here, are this project's own rules.
+use Rattle.std.specs.Prelude.{◌≡◌, ℕ, zero, suc, ◌+◌, ◌-◌, ◌^◌, ◌<◌, ◌&&◌, List, [], ◌∷◌, ◌++◌, length, take, drop, replicate, position, nat_eq, nat_lt, ◌==◌, if◌then◌else◌, Option, Some, None, option_map, unwrap_or, ok_or, Result, Ok, Err, Contains, bytes_eq, codes, refl}
+use Rattle.std.specs.List.{starts_with}
+use Rattle.std.specs.Option.{option_or}
 use Rattle.std.specs.Fmt.{digits, decimal}
+use Rattle.std.specs.Str.Parse.{digits_value}
+use Rattle.rk_bytes.specs.Model.Numbers.{◌>>=◌}
+use Rattle.rk_bytes.specs.declared.model.name.FileName.{FileName}
+use Rattle.rk_bytes.specs.declared.model.name.FileName.TheVariants.{Current, Manifest, Log, Table, Temp, Lost, Other}
+use Rattle.rk_bytes.specs.declared.model.name.CurrentFault.{CurrentFault}
+use Rattle.rk_bytes.specs.declared.model.name.CurrentFault.TheVariants.{NoNewline, Trailing, NotManifest}
 
 -- a file's number: in decimal, with zeros before it to six digits at least
 abbrev pub six_digits : ℕ → List ℕ
 six_digits n = replicate (6 - length (decimal n)) 48 ++ decimal n
 
+abbrev pub current_name : List ℕ
+current_name = codes "CURRENT"
+
+abbrev pub manifest_name : ℕ → List ℕ
+manifest_name n = codes "MANIFEST-" ++ six_digits n
+
 abbrev pub log_name : ℕ → List ℕ
 log_name n = six_digits n ++ codes ".log"
+
+abbrev pub table_name : ℕ → List ℕ
+table_name n = six_digits n ++ codes ".sst"
+
+abbrev pub temp_name : ℕ → List ℕ
+temp_name n = six_digits n ++ codes ".dbtmp"
+
+-- how the name is printed; nothing where it isn't one of a number's or `CURRENT`
+abbrev pub printed_name : FileName → List ℕ
+printed_name Current = current_name
+printed_name (Manifest n) = manifest_name n
+printed_name (Log n) = log_name n
+printed_name (Table n) = table_name n
+printed_name (Temp n) = temp_name n
+printed_name _ = []
+
+-- the number below 2 ^ 64 that these digits write, where its name is the text
+abbrev pub named_number : (ℕ → List ℕ) → List ℕ → List ℕ → Option ℕ
+named_number name number text = let n = digits_value 10 number in if nat_lt n (2 ^ 64) && bytes_eq (name n) text then Some n else None
+
+-- the number of a manifest's name, and of a name that ends so
+abbrev pub manifest_number : List ℕ → Option ℕ
+manifest_number text = named_number manifest_name (drop 9 text) text
+
+abbrev pub number_before : ℕ → (ℕ → List ℕ) → List ℕ → Option ℕ
+number_before ending_len name text = named_number name (take (length text - ending_len) text) text
+
+abbrev pub lost_prefix : List ℕ
+lost_prefix = codes "lost/"
+
+abbrev pub numbered_name : List ℕ → Option FileName
+numbered_name text =
+    option_or (option_map Manifest (manifest_number text))
+    (option_or (option_map Log (number_before 4 log_name text))
+    (option_or (option_map Table (number_before 4 table_name text)) (option_map Temp (number_before 6 temp_name text))))
+
+-- The name that the text is.
+unfoldable pub name_of : List ℕ → FileName
+name_of text =
+    if starts_with nat_eq text lost_prefix then Lost
+    else (if bytes_eq text current_name then Current else unwrap_or (numbered_name text) Other)
+
+-- what CURRENT holds, and the number of the manifest that it names
+abbrev pub current_text : ℕ → List ℕ
+current_text n = manifest_name n ++ 10 ∷ []
+
+unfoldable pub current_manifest : List ℕ → Result ℕ CurrentFault
+current_manifest text = do
+  newline ← ok_or (position (λ b. b == 10) text) NoNewline
+  if nat_lt (newline + 1) (length text) then Err Trailing else ok_or (manifest_number (take newline text)) NotManifest
+
+-- the names below `lost/` that a file may be moved to, in the order in which they are tried
+abbrev pub lost_name : List ℕ → ℕ → List ℕ
+lost_name name zero = lost_prefix ++ name
+lost_name name (suc k) = lost_prefix ++ name ++ codes "." ++ decimal (suc k)
+
+-- the first of them that isn't taken
+pub record IsFreeLostName (name : List ℕ) (taken : List (List ℕ)) (free : List ℕ) : Type 0 where
+  pub tried : ℕ
+  pub is : free ≡ lost_name name tried
+  pub absent : ¬ (Contains taken free)
+  pub before : (k : ℕ) → k < tried → Contains taken (lost_name name k)
 
 short_number : log_name 3 ≡ codes "000003.log"
 unfolding digits
@@ -16,3 +93,43 @@ short_number = refl
 long_number : log_name 12345678 ≡ codes "12345678.log"
 unfolding digits
 long_number = refl
+
+of_a_table : name_of (codes "000012.sst") ≡ Table 12
+unfolding name_of digits
+of_a_table = refl
+
+of_too_few_digits : name_of (codes "12.sst") ≡ Other
+unfolding name_of digits
+of_too_few_digits = refl
+
+of_too_many_digits : name_of (codes "0000012.sst") ≡ Other
+unfolding name_of digits
+of_too_many_digits = refl
+
+of_a_short_manifest : name_of (codes "MANIFEST-12") ≡ Other
+unfolding name_of digits
+of_a_short_manifest = refl
+
+of_a_lost_table : name_of (codes "lost/000012.sst") ≡ Lost
+unfolding name_of digits
+of_a_lost_table = refl
+
+of_a_temporary_file : name_of (codes "1234567.dbtmp") ≡ Temp 1234567
+unfolding name_of digits
+of_a_temporary_file = refl
+
+of_no_newline : current_manifest (codes "MANIFEST-000002") ≡ Err NoNewline
+unfolding current_manifest digits
+of_no_newline = refl
+
+of_a_manifest : current_manifest (codes "MANIFEST-000002\n") ≡ Ok 2
+unfolding current_manifest digits
+of_a_manifest = refl
+
+of_a_second_line : current_manifest (codes "MANIFEST-000002\n\n") ≡ Err Trailing
+unfolding current_manifest digits
+of_a_second_line = refl
+
+of_a_log's_name : current_manifest (codes "000002.log\n") ≡ Err NotManifest
+unfolding current_manifest digits
+of_a_log's_name = refl

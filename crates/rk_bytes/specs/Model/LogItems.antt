@@ -1,9 +1,9 @@
 -- The records of a log, and what is left out between them: the marks of LogMarks, parted.
 use Rattle.std.specs.Prelude.{◌≡◌, ℕ, Bool, true, false, List, [], ◌∷◌, ◌++◌, Option, Some, None, refl}
-use Rattle.rk_bytes.specs.declared.model.GapWhy.{GapWhy}
-use Rattle.rk_bytes.specs.declared.model.GapWhy.TheVariants.{Checksum, MissingStart, MissingEnd}
-use Rattle.rk_bytes.specs.declared.model.EndKind.{EndKind}
-use Rattle.rk_bytes.specs.declared.model.EndKind.TheVariants.{Clean, Torn, Stale, Unsupported}
+use Rattle.rk_bytes.specs.declared.model.log.GapWhy.{GapWhy}
+use Rattle.rk_bytes.specs.declared.model.log.GapWhy.TheVariants.{Checksum, MissingStart, MissingEnd}
+use Rattle.rk_bytes.specs.declared.model.log.EndKind.{EndKind}
+use Rattle.rk_bytes.specs.declared.model.log.EndKind.TheVariants.{Clean, Torn, Stale, Unsupported}
 use Rattle.rk_bytes.specs.Model.LogMarks.{Mark, full, first, middle, last, fault, cut, stale, unsupported, file_end, is_end, log_marks}
 
 -- A record has its payload and the place of its first header.

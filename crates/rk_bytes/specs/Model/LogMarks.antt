@@ -3,8 +3,8 @@
 -- Only full records with legacy headers are read so far: a header of a split or recyclable record
 -- is an unsupported end.
 use Rattle.std.specs.Prelude.{◌≡◌, ℕ, zero, suc, ◌+◌, ◌-◌, ◌/◌, Bool, true, false, not, ◌&&◌, ◌||◌, List, [], ◌∷◌, ◌++◌, length, take, drop, slice_index, if◌then◌else◌, nat_lt, nat_le, ◌==◌, replicate, refl}
-use Rattle.rk_bytes.specs.declared.model.GapWhy.{GapWhy}
-use Rattle.rk_bytes.specs.declared.model.GapWhy.TheVariants.{Checksum, Length, UnknownType}
+use Rattle.rk_bytes.specs.declared.model.log.GapWhy.{GapWhy}
+use Rattle.rk_bytes.specs.declared.model.log.GapWhy.TheVariants.{Checksum, Length, UnknownType}
 use Rattle.rk_bytes.specs.Model.Numbers.{little_endian}
 use Rattle.rk_bytes.specs.Model.Checksums.{crc32c, mask}
 

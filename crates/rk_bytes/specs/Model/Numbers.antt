@@ -1,7 +1,7 @@
 -- Numbers of the formats (util/coding.h): fixed integers, varints and length-prefixed slices.
 use Rattle.std.specs.Prelude.{◌≡◌, ℕ, zero, suc, ◌+◌, ◌*◌, ◌/◌, ◌%◌, ◌^◌, ◌<◌, ◌≤◌, ℤ, pos, negsuc, List, [], ◌∷◌, ◌++◌, length, take, drop, take_while, nat_lt, nat_le, ◌==◌, if◌then◌else◌, Result, Ok, Err, refl}
-use Rattle.rk_bytes.specs.declared.model.NumFault.{NumFault}
-use Rattle.rk_bytes.specs.declared.model.NumFault.TheVariants.{Cut, TooLarge}
+use Rattle.rk_bytes.specs.declared.model.number.NumFault.{NumFault}
+use Rattle.rk_bytes.specs.declared.model.number.NumFault.TheVariants.{Cut, TooLarge}
 
 -- the number that bytes spell, the least significant first
 abbrev pub little_endian : List ℕ → ℕ
@@ -100,6 +100,21 @@ abbrev pub prefixed_at : List ℕ → Read (List ℕ)
 prefixed_at bytes = do
   len ← varint32_at bytes
   part_of len.0 len.1
+
+-- What is read, or this fault where it doesn't read.
+abbrev pub reads_or : {A F : Type 0} → F → Read A → Result (A × List ℕ) F
+reads_or fault (Ok one) = Ok one
+reads_or fault (Err why) = Err fault
+
+-- All that is read one after another from the front of bytes to their end, or the first fault. Each
+-- is read with those before it at hand, the last of them first. There are at most n bytes.
+unfoldable pub in_turn : {A F : Type 0} → (List A → List ℕ → Result (A × List ℕ) F) → ℕ → List A → List ℕ → Result (List A) F
+in_turn read zero before bytes = Ok []
+in_turn read (suc n) before [] = Ok []
+in_turn read (suc n) before (b ∷ bytes) = do
+  one ← read before (b ∷ bytes)
+  more ← in_turn read n (one.0 ∷ before) one.1
+  Ok (one.0 ∷ more)
 
 counts_up : little_endian (0x78 ∷ 0x56 ∷ 0x34 ∷ 0x12 ∷ []) ≡ 0x12345678
 counts_up = refl

@@ -2,12 +2,12 @@
 use Rattle.std.specs.Prelude.{◌≡◌, ℕ, ◌^◌, ◌<◌, ◌&&◌, List, [], ◌∷◌, ◌++◌, length, map, flat_map, take, nat_lt, if◌then◌else◌, Option, Some, None, option_map, bytes_eq, codes, decimal}
 use Rattle.std.specs.Str.Parse.{digits_value}
 use Rattle.std.specs.FinMap.{get}
-use Rattle.rk_bytes.specs.declared.model.GapWhy.{GapWhy}
-use Rattle.rk_bytes.specs.declared.model.GapWhy.TheVariants.{Checksum, Length, UnknownType, MissingStart, MissingEnd, Mixed}
-use Rattle.rk_bytes.specs.declared.model.EndKind.{EndKind}
-use Rattle.rk_bytes.specs.declared.model.EndKind.TheVariants.{Clean, Torn, Stale, Unsupported}
-use Rattle.rk_bytes.specs.declared.model.Status.{Status}
-use Rattle.rk_bytes.specs.declared.model.Status.TheVariants.{Done, Refused, Usage, DiskFault, SinkFault, Memory}
+use Rattle.rk_bytes.specs.declared.model.log.GapWhy.{GapWhy}
+use Rattle.rk_bytes.specs.declared.model.log.GapWhy.TheVariants.{Checksum, Length, UnknownType, MissingStart, MissingEnd, Mixed}
+use Rattle.rk_bytes.specs.declared.model.log.EndKind.{EndKind}
+use Rattle.rk_bytes.specs.declared.model.log.EndKind.TheVariants.{Clean, Torn, Stale, Unsupported}
+use Rattle.rk_bytes.specs.declared.model.status.Status.{Status}
+use Rattle.rk_bytes.specs.declared.model.status.Status.TheVariants.{Done, Refused, Usage, DiskFault, SinkFault, Memory}
 use Rattle.rk_bytes.specs.Model.DiskImages.{Directory}
 use Rattle.rk_bytes.specs.Model.FileNames.{log_name}
 use Rattle.rk_bytes.specs.Model.LogItems.{Item, rec, gap, end, log_items}

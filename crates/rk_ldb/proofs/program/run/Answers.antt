@@ -1,5 +1,5 @@
 use Rattle.std.proofs.Common.{Err, subst}
-use Rattle.rk_bytes.specs.declared.model.Status.{Status}
+use Rattle.rk_bytes.specs.declared.model.status.Status.{Status}
 use Rattle.rk_bytes.specs.Model.DiskImages.{Rose}
 use Rattle.rk_bytes.specs.Model.Output.{output, disk_fault_line, memory_fault_line}
 use Rattle.rk_ldb.specs.Stops.{TookUpTo}

@@ -2,8 +2,8 @@ use Rattle.std.proofs.Common.{◌≡◌, ◌≢◌, ◌⊎◌, ℕ, ◌+◌, ◌
 use Rattle.std.specs.Cmp.Derive.{both_true}
 use Rattle.std.proofs.Math.Bool.{and-false}
 use Rattle.std.proofs.lemmas.Bool.{lt-ltb, le-ltb, eqb-true, ne_eqb, eq-eqb, eqb-false}
-use Rattle.rk_bytes.specs.declared.model.EndKind.TheVariants.{Torn, Unsupported}
-use Rattle.rk_bytes.specs.declared.model.GapWhy.TheVariants.{Checksum, Length, UnknownType}
+use Rattle.rk_bytes.specs.declared.model.log.EndKind.TheVariants.{Torn, Unsupported}
+use Rattle.rk_bytes.specs.declared.model.log.GapWhy.TheVariants.{Checksum, Length, UnknownType}
 use Rattle.rk_bytes.specs.Model.LogMarks.{nothing, whole_rest, fragment, cut, unsupported, full, fault, type_of, payload_len}
 use Rattle.rk_log.proofs.BlockLemmas.{marks_of_empty, marks_of_nothing, found_by_tests, shows_end, shows_gap_to_end, shows_fragment}
 use Rattle.rk_log.proofs.fragment.find.Goals as goal

@@ -1,5 +1,5 @@
 use Rattle.rk_bytes.proofs.PartingLemmas.{EndsOnce-log_marks, Parts-parting, same_parts}
-use Rattle.rk_bytes.proofs.model.one_parting.Goals as goal
+use Rattle.rk_bytes.proofs.model.laws.one_parting.Goals as goal
 
 pub returns-clause-marks : goal.returns-clause-marks
 returns-clause-marks c = EndsOnce-log_marks

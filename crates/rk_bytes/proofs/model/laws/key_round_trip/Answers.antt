@@ -1,0 +1,68 @@
+use Rattle.std.proofs.Common.{◌≡◌, ℕ, zero, suc, Bool, ◌-◌, ◌*◌, ◌/◌, ◌%◌, ◌<◌, ◌≤◌, List, ◌++◌, length, take, drop, refl, ap, ◌∙◌, arith, length-append, cond}
+use Rattle.std.specs.Prelude.{Option, Some, Result, Ok, Err, option_map, ok_or}
+use Rattle.std.proofs.Math.Seq.{take-append_seam, drop-append_seam}
+use borrow.Author.Tests.{le-ltb}
+use Rattle.rk_bytes.specs.declared.model.key.Kind.{Kind}
+use Rattle.rk_bytes.specs.declared.model.key.Kind.TheVariants.{Deletion, Value, Merge, SingleDeletion, RangeDeletion}
+use Rattle.rk_bytes.specs.declared.model.key.KeyFault.{KeyFault}
+use Rattle.rk_bytes.specs.declared.model.key.KeyFault.TheVariants.{Short}
+use Rattle.rk_bytes.specs.Model.Numbers.{little_endian, fixed_of}
+use Rattle.rk_bytes.specs.Model.InternalKey.{kind_number, kind_of, packed_of, user_key, packed, internal_key, KeyParts, without_kind, key_parts}
+use Rattle.rk_bytes.proofs.model.laws.key_round_trip.Goals as goal
+
+-- 256 to the power of len
+abbrev bound : ℕ → ℕ
+bound zero = 1
+bound (suc len) = 256 * bound len
+
+little_endian-fixed_of : (len n : ℕ) → n < bound len → little_endian (fixed_of len n) ≡ n
+little_endian-fixed_of zero n below = omega arith
+little_endian-fixed_of (suc len) n below = let rest = little_endian-fixed_of len (n / 256) (omega arith) in omega arith
+
+length-fixed_of : (len n : ℕ) → length (fixed_of len n) ≡ len
+length-fixed_of zero n = refl
+length-fixed_of (suc len) n = ap suc (length-fixed_of len (n / 256))
+
+kind_of-kind_number : (kind : Kind) → kind_of (kind_number kind) ≡ Some kind
+kind_of-kind_number Deletion = refl
+kind_of-kind_number Value = refl
+kind_of-kind_number Merge = refl
+kind_of-kind_number SingleDeletion = refl
+kind_of-kind_number RangeDeletion = refl
+
+kind_number-byte : (kind : Kind) → kind_number kind < 256
+kind_number-byte Deletion = omega arith
+kind_number-byte Value = omega arith
+kind_number-byte Merge = omega arith
+kind_number-byte SingleDeletion = omega arith
+kind_number-byte RangeDeletion = omega arith
+
+-- the length without the last 8 bytes
+without_end : (user end : List ℕ) → length end ≡ 8 → length (user ++ end) - 8 ≡ length user
+without_end user end eight = omega (arith, length-append user end)
+
+-- key_parts, by what it reads of a key: whether it is short, its user key, its sequence number, its kind and that kind's number
+abbrev answer : Bool → List ℕ → ℕ → Option Kind → ℕ → Result KeyParts KeyFault
+answer is_short user sequence found number =
+    cond is_short (Err Short) (ok_or (option_map (λ kind. record { user = user; sequence = sequence; kind = kind }) found) (without_kind number))
+
+with_parts : (key user : List ℕ) (sequence : ℕ) (kind : Kind) → 8 ≤ length key → user_key key ≡ user → packed key ≡ packed_of sequence kind
+    → key_parts key ≡ Ok (record { user = user; sequence = sequence; kind = kind })
+with_parts key user sequence kind long users number =
+    let byte : kind_number kind < 256 = kind_number-byte kind in
+    let sequence_is : packed key / 256 ≡ sequence = omega arith in
+    let kind_is : packed key % 256 ≡ kind_number kind = omega arith in
+    let found : kind_of (packed key % 256) ≡ Some kind = ap kind_of kind_is ∙ kind_of-kind_number kind in
+    λ i. answer (le-ltb (length key) 8 long i) (users i) (sequence_is i) (found i) (kind_is i)
+
+pub returns : goal.returns
+unfolding internal_key
+returns c user sequence kind below =
+    let n : ℕ = packed_of sequence kind in
+    let end : List ℕ = fixed_of 8 n in
+    let eight : length end ≡ 8 = length-fixed_of 8 n in
+    let byte : kind_number kind < 256 = kind_number-byte kind in
+    let cut : length (user ++ end) - 8 ≡ length user = without_end user end eight in
+    with_parts (user ++ end) user sequence kind (omega (arith, length-append user end))
+    (ap (λ len. take len (user ++ end)) cut ∙ take-append_seam user end)
+    (ap (λ len. little_endian (drop len (user ++ end))) cut ∙ ap little_endian (drop-append_seam user end) ∙ little_endian-fixed_of 8 n (omega arith))

@@ -1,0 +1,334 @@
+-- Units of a manifest, and the version that they amount to (RocksDB's wiki, "MANIFEST", and
+-- db/version_edit_handler.cc). The order of the refusals, and which number counts where one is stated
+-- twice, are this project's own rules.
+use Rattle.std.specs.Prelude.{◌≡◌, ℕ, zero, suc, ◌-◌, Bool, true, false, not, ◌&&◌, ◌||◌, List, [], ◌∷◌, ◌++◌, length, map, take, filter, filter_map, min, max, is_none, is_some, nat_eq, nat_lt, nat_le, ◌==◌, if◌then◌else◌, Option, Some, None, option_map, unwrap_or, is_ok, Result, Ok, Err, bytes_eq, codes, refl}
+use Rattle.std.specs.List.{list_any, list_all, last_or, reduce}
+use Rattle.std.specs.Option.{option_eq, option_or, option_map_or}
+use Rattle.std.specs.Ordering.{nat_cmp, is_lt, ordering_then}
+use Rattle.rk_bytes.specs.declared.model.log.GapWhy.TheVariants.{Checksum}
+use Rattle.rk_bytes.specs.declared.model.log.EndKind.TheVariants.{Clean, Unsupported as unsupported_end}
+use Rattle.rk_bytes.specs.declared.model.key.Kind.TheVariants.{Value}
+use Rattle.rk_bytes.specs.declared.model.edit.EditFault.TheVariants.{UnsupportedTag}
+use Rattle.rk_bytes.specs.declared.model.manifest.ManifestWhy.TheVariants.{Gap, Unsupported}
+use Rattle.rk_bytes.specs.declared.model.manifest.EditWhy.TheVariants.{Read, Apply}
+use Rattle.rk_bytes.specs.declared.model.manifest.ApplyFault.{ApplyFault}
+use Rattle.rk_bytes.specs.declared.model.manifest.ApplyFault.TheVariants.{UnsupportedComparator, FamilyExists, UnknownFamily, DeleteAbsent, AddPresent, Overlap}
+use Rattle.rk_bytes.specs.declared.model.manifest.Which.TheVariants.{LogNumber, NextFile, LastSequence}
+use Rattle.rk_bytes.specs.declared.model.manifest.ManifestFault.{ManifestFault}
+use Rattle.rk_bytes.specs.declared.model.manifest.ManifestFault.TheVariants.{Damaged, BadEdit, BadGroup, NoFields}
+use Rattle.rk_bytes.specs.declared.model.manifest.FileMeta.{FileMeta}
+use Rattle.rk_bytes.specs.declared.model.manifest.FamilyState.{FamilyState}
+use Rattle.rk_bytes.specs.declared.model.manifest.Version.{Version}
+use Rattle.rk_bytes.specs.Model.Numbers.{◌>>=◌, in_turn}
+use Rattle.rk_bytes.specs.Model.InternalKey.{key_cmp, bytewise_name, internal_key}
+use Rattle.rk_bytes.specs.Model.LogItems.{Item, rec, gap, end, log_items}
+use Rattle.rk_bytes.specs.Model.VersionEdit.{Field, NewFile, comparator, log_number, next_file, last_sequence, add_file, group, comparator_in, log_number_in, next_file_in, last_sequence_in, deleted_in, added_in, least_log_in, family_in, family_add_in, drops_family, greatest_family_in, group_in, edit_fields}
+
+-- A unit is an edit by itself, or the edits of a group.
+pub record ManifestUnit : Type 0 where
+  pub edits : List (List Field)
+  pub is_group : Bool
+
+-- the units before the first fault of reading, and that fault
+pub record Units : Type 0 where
+  pub units : List ManifestUnit
+  pub fault : Option ManifestFault
+
+-- what the edit states in fields of one kind: the last of them counts
+abbrev pub stated : {A : Type 0} → (Field → Option A) → List Field → Option A
+stated field_in edit = last_or None (filter_map field_in edit)
+
+-- the edits up to the first that doesn't read, the first gap or the end
+unfoldable pub edits_of : List Item → List (List Field)
+edits_of (rec payload place ∷ items) = elim (edit_fields payload) [ Ok edit ↦ edit ∷ edits_of items | Err why ↦ [] ]
+edits_of _ = []
+
+-- the fault that ends them, in the unit with this number
+unfoldable pub fault_after : List Item → ℕ → Option ManifestFault
+fault_after (rec payload place ∷ items) number =
+    elim (edit_fields payload) [ Ok edit ↦ fault_after items number | Err why ↦ Some (BadEdit number (Read why)) ]
+fault_after (gap why place ∷ items) number = Some (Damaged place (Gap why))
+fault_after (end (unsupported_end kind) place ∷ items) number = Some (Damaged place (Unsupported kind))
+fault_after _ number = None
+
+-- the edits state that n more of their group come, then one fewer, and so on
+abbrev pub falls : ℕ → List (List Field) → Bool
+falls n [] = true
+falls n (edit ∷ edits) = option_eq nat_eq (stated group_in edit) (Some n) && falls (n - 1) edits
+
+abbrev pub with_unit : ManifestUnit → Units → Units
+with_unit unit rest = record { units = unit ∷ rest.units; fault = rest.fault }
+
+-- The units of edits that this fault follows. The first unit has this number, and the first `inside`
+-- edits belong to the unit before. A group that the edits' end cuts off is no unit.
+unfoldable pub units_from : (ℕ → Option ManifestFault) → ℕ → ℕ → List (List Field) → Units
+units_from fault number inside [] = record { units = []; fault = fault number }
+units_from fault number (suc inside) (edit ∷ edits) = units_from fault number inside edits
+units_from fault number zero (edit ∷ edits) = elim (stated group_in edit) [
+  | None ↦ with_unit (record { edits = edit ∷ []; is_group = false }) (units_from fault (suc number) 0 edits)
+  | Some n ↦
+      let members = take (suc n) (edit ∷ edits) in
+      if not (falls n members) then record { units = []; fault = Some (BadGroup number) }
+      else (if nat_le (length members) n then record { units = []; fault = fault number }
+      else with_unit (record { edits = members; is_group = true }) (units_from fault (suc number) n edits))
+]
+
+abbrev pub units_of_items : List Item → Units
+units_of_items items = units_from (fault_after items) 1 0 (edits_of items)
+
+-- the units of the manifest that the bytes are
+abbrev pub manifest_units : List ℕ → Units
+manifest_units bytes = units_of_items (log_items 0 bytes)
+
+-- the version before the first unit: the default family alone
+abbrev pub first_version : Version
+first_version = record {
+  families = record { id = 0; name = codes "default"; log = 0; files = [] } ∷ [];
+  log_seen = false;
+  next_file = None;
+  last_sequence = None;
+  least_log = 0;
+  greatest_family = 0;
+}
+
+-- Steps in order, up to the first that is refused.
+unfoldable pub each : {A : Type 0} → (A → Version → Result Version ApplyFault) → List A → Version → Result Version ApplyFault
+each step [] version = Ok version
+each step (one ∷ more) version = do
+  next ← step one version
+  each step more next
+
+-- the family that the edit speaks of
+abbrev pub edit_family : List Field → ℕ
+edit_family edit = unwrap_or (stated family_in edit) 0
+
+abbrev pub has_other_comparator : List Field → Bool
+has_other_comparator edit = option_map_or (λ name. not (bytes_eq name bytewise_name)) (stated comparator_in edit) false
+
+abbrev pub has_id : ℕ → FamilyState → Bool
+has_id id live = live.id == id
+
+abbrev pub has_name : List ℕ → FamilyState → Bool
+has_name name live = bytes_eq live.name name
+
+abbrev pub with_families : (List FamilyState → List FamilyState) → Version → Version
+with_families change version = record version { families = change version.families }
+
+-- the family with this id, as change leaves it
+abbrev pub with_family : ℕ → (FamilyState → FamilyState) → Version → Version
+with_family id change version = with_families (map (λ live. if has_id id live then change live else live)) version
+
+abbrev pub add_family : ℕ → List ℕ → List FamilyState → List FamilyState
+add_family id name families =
+    filter (λ live. nat_lt live.id id) families ++ record { id = id; name = name; log = 0; files = [] } ∷ filter (λ live. nat_lt id live.id) families
+
+abbrev pub drop_family : ℕ → List FamilyState → List FamilyState
+drop_family id families = filter (λ live. not (has_id id live)) families
+
+-- the families after the edit: one more, one fewer, or the same
+abbrev pub family_step : List Field → Version → Result Version ApplyFault
+family_step edit version = let id = edit_family edit in elim (stated family_add_in edit) [
+  | Some name ↦
+      if list_any (has_id id) version.families || list_any (has_name name) version.families then Err (FamilyExists id)
+      else Ok (with_families (add_family id name) version)
+  | None ↦
+      if not (list_any (has_id id) version.families) then Err (UnknownFamily id)
+      else Ok (if list_any drops_family edit then with_families (drop_family id) version else version)
+]
+
+abbrev pub has_number : ℕ → FileMeta → Bool
+has_number number file = file.number == number
+
+abbrev pub with_files : ℕ → (List FileMeta → List FileMeta) → Version → Version
+with_files id change version = with_family id (λ live. record live { files = change live.files }) version
+
+-- a deleted file has a level and a number
+abbrev pub delete_step : ℕ → ℕ × ℕ → Version → Result Version ApplyFault
+delete_step id deleted version =
+    if list_any (λ live. has_id id live && list_any (λ file. has_number deleted.1 file && file.level == deleted.0) live.files) version.families
+    then Ok (with_files id (filter (λ file. not (has_number deleted.1 file))) version)
+    else Err (DeleteAbsent deleted.1)
+
+abbrev pub file_meta : NewFile → FileMeta
+file_meta new = record { number = new.number; level = new.level; size = new.size; smallest = new.smallest; largest = new.largest }
+
+abbrev pub add_meta : FileMeta → List FileMeta → List FileMeta
+add_meta new files = filter (λ file. nat_lt file.number new.number) files ++ new ∷ filter (λ file. nat_lt new.number file.number) files
+
+abbrev pub add_step : ℕ → NewFile → Version → Result Version ApplyFault
+add_step id new version =
+    if list_any (λ live. list_any (has_number new.number) live.files) version.families then Err (AddPresent new.number)
+    else Ok (with_files id (add_meta (file_meta new)) version)
+
+-- the files after the edit: those that it deletes go, and then those that it adds come
+abbrev pub file_steps : List Field → Version → Result Version ApplyFault
+file_steps edit version = do
+  fewer ← each (delete_step (edit_family edit)) (filter_map deleted_in edit) version
+  each (add_step (edit_family edit)) (filter_map added_in edit) fewer
+
+-- the greater of the number and the one that the edit states
+abbrev pub risen : ℕ → Option ℕ → ℕ
+risen n new = max n (unwrap_or new 0)
+
+abbrev pub with_numbers : List Field → Version → Version
+with_numbers edit version =
+    let logged = with_family (edit_family edit) (λ live. record live { log = risen live.log (stated log_number_in edit) }) version in
+    record {
+      families = logged.families;
+      log_seen = version.log_seen || is_some (stated log_number_in edit);
+      next_file = option_or (stated next_file_in edit) version.next_file;
+      last_sequence = option_or (stated last_sequence_in edit) version.last_sequence;
+      least_log = risen version.least_log (stated least_log_in edit);
+      greatest_family = risen version.greatest_family (stated greatest_family_in edit);
+    }
+
+unfoldable pub edit_step : List Field → Version → Result Version ApplyFault
+edit_step edit version = if has_other_comparator edit then Err UnsupportedComparator else (do
+  known ← family_step edit version
+  filed ← if list_any drops_family edit then Ok known else file_steps edit known
+  Ok (with_numbers edit filed))
+
+-- Files are apart where of any two the one that comes first, by its least key and then by its number,
+-- ends below the other's least key.
+abbrev pub comes_before : FileMeta → FileMeta → Bool
+comes_before a b = is_lt (ordering_then (key_cmp a.smallest b.smallest) (nat_cmp a.number b.number))
+
+abbrev pub ends_below : FileMeta → FileMeta → Bool
+ends_below a b = is_lt (key_cmp a.largest b.smallest)
+
+abbrev pub are_apart : List FileMeta → Bool
+are_apart files = list_all (λ a. list_all (λ b. not (comes_before a b) || ends_below a b) files) files
+
+abbrev pub overlap_at : List FileMeta → ℕ → Bool
+overlap_at files level = not (are_apart (filter (λ file. file.level == level) files))
+
+-- the lowest level above 0 at which files overlap
+abbrev pub overlapping_level : List FileMeta → Option ℕ
+overlapping_level files = reduce min (filter (λ level. nat_lt 0 level && overlap_at files level) (map (λ file. file.level) files))
+
+-- the lowest family with such a level
+unfoldable pub overlap : List FamilyState → Option ApplyFault
+overlap [] = None
+overlap (live ∷ families) = option_or (option_map (Overlap live.id) (overlapping_level live.files)) (overlap families)
+
+unfoldable pub unit_step : ManifestUnit → Version → Result Version ApplyFault
+unit_step unit version = do
+  next ← each edit_step unit.edits version
+  elim (overlap next.families) [ Some why ↦ Err why | None ↦ Ok next ]
+
+abbrev pub in_unit : {A : Type 0} → ℕ → Result A ApplyFault → Result A ManifestFault
+in_unit number (Ok one) = Ok one
+in_unit number (Err why) = Err (BadEdit number (Apply why))
+
+-- the version after the units, the first of which has this number
+unfoldable pub version_after : ℕ → List ManifestUnit → Version → Result Version ManifestFault
+version_after number [] version = Ok version
+version_after number (unit ∷ units) version = do
+  next ← in_unit number (unit_step unit version)
+  version_after (suc number) units next
+
+-- The version after the first so many units, or the first unit that is refused.
+abbrev pub version_at : List ManifestUnit → ℕ → Result Version ManifestFault
+version_at units count = version_after 1 (take count units) first_version
+
+abbrev pub complete : Version → Result Version ManifestFault
+complete version =
+    if not version.log_seen then Err (NoFields LogNumber)
+    else (if is_none version.next_file then Err (NoFields NextFile)
+    else (if is_none version.last_sequence then Err (NoFields LastSequence) else Ok version))
+
+-- The version after all units. A refused unit comes before a fault of reading, and that before a number
+-- that no edit states.
+abbrev pub last_version : Units → Result Version ManifestFault
+last_version read = do
+  version ← version_at read.units (length read.units)
+  elim read.fault [ Some fault ↦ Err fault | None ↦ complete version ]
+
+-- the least number of a log that may hold records that no table holds
+abbrev pub first_log : Version → ℕ
+first_log version = max version.least_log (unwrap_or (reduce min (map (λ live. live.log) version.families)) 0)
+
+-- a log of these records
+logged : List (List ℕ) → List Item
+logged [] = end Clean 0 ∷ []
+logged (bytes ∷ records) = rec bytes 0 ∷ logged records
+
+-- the edit of a new database, as bytes and as fields
+first_edit : List ℕ
+first_edit = 1 ∷ 26 ∷ codes "leveldb.BytewiseComparator" ++ 2 ∷ 3 ∷ 3 ∷ 4 ∷ 4 ∷ 0 ∷ []
+
+first_fields : List Field
+first_fields = comparator (codes "leveldb.BytewiseComparator") ∷ log_number 3 ∷ next_file 4 ∷ last_sequence 0 ∷ []
+
+-- an edit that states how many more of its group come
+left : ℕ → List ℕ
+left n = 0xAC ∷ 2 ∷ n ∷ []
+
+of_an_unfinished_group : units_of_items (logged (first_edit ∷ left 2 ∷ left 1 ∷ []))
+    ≡ record { units = record { edits = first_fields ∷ []; is_group = false } ∷ []; fault = None }
+unfolding logged first_edit first_fields left units_from edits_of fault_after edit_fields in_turn
+of_an_unfinished_group = refl
+
+of_a_group_that_does_not_fall : units_of_items (logged (first_edit ∷ left 2 ∷ left 1 ∷ left 1 ∷ []))
+    ≡ record { units = record { edits = first_fields ∷ []; is_group = false } ∷ []; fault = Some (BadGroup 2) }
+unfolding logged first_edit first_fields left units_from edits_of fault_after edit_fields in_turn
+of_a_group_that_does_not_fall = refl
+
+of_a_whole_group : units_of_items (logged (left 1 ∷ left 0 ∷ (2 ∷ 9 ∷ []) ∷ []))
+    ≡ record {
+      units = record { edits = (group 1 ∷ []) ∷ (group 0 ∷ []) ∷ []; is_group = true } ∷ record { edits = (log_number 9 ∷ []) ∷ []; is_group = false } ∷ [];
+      fault = None;
+    }
+unfolding logged left units_from edits_of fault_after edit_fields in_turn
+of_a_whole_group = refl
+
+-- a fault within a group is one of the unit that the group would be
+of_a_bad_edit_in_a_group : units_of_items (logged (left 2 ∷ left 1 ∷ (0x66 ∷ []) ∷ [])) ≡ record { units = []; fault = Some (BadEdit 1 (Read (UnsupportedTag 102 0))) }
+unfolding logged left units_from edits_of fault_after edit_fields in_turn
+of_a_bad_edit_in_a_group = refl
+
+of_a_gap : units_of_items (rec (2 ∷ 9 ∷ []) 0 ∷ gap Checksum 9 ∷ end Clean 20 ∷ [])
+    ≡ record { units = record { edits = (log_number 9 ∷ []) ∷ []; is_group = false } ∷ []; fault = Some (Damaged 9 (Gap Checksum)) }
+unfolding units_from edits_of fault_after edit_fields in_turn
+of_a_gap = refl
+
+of_a_new_database : last_version (units_of_items (logged (first_edit ∷ []))) ≡ Ok (record {
+  families = record { id = 0; name = codes "default"; log = 3; files = [] } ∷ [];
+  log_seen = true;
+  next_file = Some 4;
+  last_sequence = Some 0;
+  least_log = 0;
+  greatest_family = 0;
+})
+unfolding logged first_edit units_from edits_of fault_after edit_fields in_turn each edit_step overlap unit_step version_after
+of_a_new_database = refl
+
+of_no_edit : last_version (units_of_items (logged [])) ≡ Err (NoFields LogNumber)
+unfolding logged units_from edits_of fault_after version_after
+of_no_edit = refl
+
+-- A refused unit comes first, here one that speaks of family 1.
+of_an_unknown_family : last_version (units_of_items (logged ((0xC8 ∷ 1 ∷ 1 ∷ []) ∷ (0x66 ∷ []) ∷ []))) ≡ Err (BadEdit 1 (Apply (UnknownFamily 1)))
+unfolding logged units_from edits_of fault_after edit_fields in_turn each edit_step unit_step version_after
+of_an_unknown_family = refl
+
+-- the unit of one edit that adds two files of one level, the second with this least key
+two_files : ℕ → List ℕ → ManifestUnit
+two_files level smallest = record {
+  edits = (add_file (record { level = level; number = 7; size = 9; smallest = internal_key (codes "c") 5 Value; largest = internal_key (codes "d") 5 Value; seqs = None })
+      ∷ add_file (record { level = level; number = 6; size = 9; smallest = smallest; largest = internal_key (codes "e") 5 Value; seqs = None }) ∷ []) ∷ [];
+  is_group = false;
+}
+
+of_files_that_meet : unit_step (two_files 2 (internal_key (codes "d") 5 Value)) first_version ≡ Err (Overlap 0 2)
+unfolding two_files internal_key each edit_step overlap unit_step
+of_files_that_meet = refl
+
+-- an older record of the same user key lies beyond
+of_files_apart : is_ok (unit_step (two_files 2 (internal_key (codes "d") 4 Value)) first_version) ≡ true
+unfolding two_files internal_key each edit_step overlap unit_step
+of_files_apart = refl
+
+of_files_at_level_0 : is_ok (unit_step (two_files 0 (internal_key (codes "d") 5 Value)) first_version) ≡ true
+unfolding two_files internal_key each edit_step overlap unit_step
+of_files_at_level_0 = refl

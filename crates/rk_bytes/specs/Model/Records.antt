@@ -1,0 +1,60 @@
+-- Records and record maps (this project's own words for what tables and write batches hold).
+use Rattle.std.specs.Prelude.{◌≡◌, ℕ, List, [], ◌++◌, map, reverse, codes, refl}
+use Rattle.std.specs.declared.cmp.Ordering.{Ordering}
+use Rattle.std.specs.declared.cmp.Ordering.TheVariants.{Less, Equal}
+use Rattle.std.specs.Ordering.{nat_cmp, ordering_then}
+use Rattle.std.specs.Cmp.Lexicographic.{slice_cmp}
+use Rattle.std.specs.FinMap.{FinMap, entries, from_entries}
+use Rattle.rk_bytes.specs.declared.model.key.Kind.{Kind}
+use Rattle.rk_bytes.specs.declared.model.key.Kind.TheVariants.{Deletion, Value, RangeDeletion}
+use Rattle.rk_bytes.specs.declared.model.key.Record.{Record}
+use Rattle.rk_bytes.specs.Model.InternalKey.{packed_of}
+
+-- Where a record stands: its family, its user key, the number after that in an internal key and, of a
+-- range deletion, its end.
+pub record Place : Type 0 where
+  pub family : ℕ
+  pub user : List ℕ
+  pub packed : ℕ
+  pub end : List ℕ
+
+abbrev pub end_of : Kind → List ℕ → List ℕ
+end_of RangeDeletion value = value
+end_of _ value = []
+
+abbrev pub place_of : Record → Place
+place_of r = record { family = r.family; user = r.key; packed = packed_of r.sequence r.kind; end = end_of r.kind r.value }
+
+-- by family, then in the order of internal keys, then by end
+unfoldable pub place_cmp : Place → Place → Ordering
+place_cmp a b =
+    ordering_then (nat_cmp a.family b.family)
+    (ordering_then (slice_cmp nat_cmp a.user b.user) (ordering_then (nat_cmp b.packed a.packed) (slice_cmp nat_cmp a.end b.end)))
+
+-- at most one record for each place
+abbrev pub RecordMap : Type 0
+RecordMap = FinMap place_cmp Record
+
+-- the record map that holds, for each place in the list, the last record there
+unfoldable pub last_records : List Record → RecordMap
+last_records records = from_entries (map (λ r. (place_of r, r)) (reverse records))
+
+-- the records of b, and those of a at places where b has none
+unfoldable pub over : RecordMap → RecordMap → RecordMap
+over a b = from_entries (entries b ++ entries a)
+
+-- a record of the key `k` in the default family
+of_k : ℕ → Kind → List ℕ → Record
+of_k sequence kind value = record { family = 0; key = codes "k"; sequence = sequence; kind = kind; value = value }
+
+newer_first : place_cmp (place_of (of_k 2 Deletion [])) (place_of (of_k 1 Value (codes "x"))) ≡ Less
+unfolding place_cmp of_k
+newer_first = refl
+
+one_place_for_two_values : place_cmp (place_of (of_k 1 Value (codes "x"))) (place_of (of_k 1 Value (codes "y"))) ≡ Equal
+unfolding place_cmp of_k
+one_place_for_two_values = refl
+
+two_places_for_two_ends : place_cmp (place_of (of_k 1 RangeDeletion (codes "x"))) (place_of (of_k 1 RangeDeletion (codes "y"))) ≡ Less
+unfolding place_cmp of_k
+two_places_for_two_ends = refl

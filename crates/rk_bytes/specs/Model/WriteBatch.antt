@@ -1,0 +1,165 @@
+-- Write batches (db/write_batch.cc). The order of the tests, and which tags are refused, are this
+-- project's own rules.
+use Rattle.std.specs.Prelude.{◌≡◌, ℕ, ◌+◌, ◌-◌, ◌^◌, Bool, not, ◌&&◌, ◌||◌, List, [], ◌∷◌, ◌++◌, length, take, drop, find, filter_map, slice_index, nat_lt, nat_le, ◌==◌, if◌then◌else◌, Option, Some, None, Result, Ok, Err, replicate, codes, refl}
+use Rattle.std.specs.List.{list_any}
+use Rattle.rk_bytes.specs.declared.model.key.Kind.{Kind}
+use Rattle.rk_bytes.specs.declared.model.key.Kind.TheVariants.{Deletion, Value, Merge, SingleDeletion, RangeDeletion}
+use Rattle.rk_bytes.specs.declared.model.key.Record.{Record}
+use Rattle.rk_bytes.specs.declared.model.batch.BatchFault.{BatchFault}
+use Rattle.rk_bytes.specs.declared.model.batch.BatchFault.TheVariants.{TooSmall, BadRecord, UnsupportedTag, WrongCount, SequenceTop}
+use Rattle.rk_bytes.specs.Model.Numbers.{Read, ◌>>=◌, little_endian, varint32_at, prefixed_at, reads_or, in_turn}
+use Rattle.rk_bytes.specs.Model.InternalKey.{all_kinds, top_sequence}
+
+-- A part of a batch has the place of its tag. A change is a record.
+pub data Part : Type 0 where
+  change : ℕ → Record → Part
+  log_bytes : ℕ → List ℕ → Part
+  noop : ℕ → Part
+
+abbrev pub change_in : Part → Option Record
+change_in (change place r) = Some r
+change_in _ = None
+
+-- the records of the parts, and how many they are
+abbrev pub changes : List Part → List Record
+changes parts = filter_map change_in parts
+
+abbrev pub change_count : List Part → ℕ
+change_count parts = length (changes parts)
+
+-- the tag of a change in the default family, and the one that a family's id follows
+abbrev pub plain_tag : Kind → ℕ
+plain_tag Deletion = 0x0
+plain_tag Value = 0x1
+plain_tag Merge = 0x2
+plain_tag SingleDeletion = 0x7
+plain_tag RangeDeletion = 0xF
+
+abbrev pub family_tag : Kind → ℕ
+family_tag Deletion = 0x4
+family_tag Value = 0x5
+family_tag Merge = 0x6
+family_tag SingleDeletion = 0x8
+family_tag RangeDeletion = 0xE
+
+abbrev pub kind_of_tag : ℕ → Option Kind
+kind_of_tag tag = find (λ kind. plain_tag kind == tag || family_tag kind == tag) all_kinds
+
+abbrev pub names_family : ℕ → Bool
+names_family tag = list_any (λ kind. family_tag kind == tag) all_kinds
+
+-- prepared transactions (0x9 to 0xC), and blob files, wide columns and what came later (0x10 to 0x1F)
+abbrev pub is_unsupported_tag : ℕ → Bool
+is_unsupported_tag tag = nat_le 0x9 tag && nat_le tag 0xC || nat_le 0x10 tag && nat_le tag 0x1F
+
+abbrev pub family_at : ℕ → List ℕ → Read ℕ
+family_at tag bytes = if names_family tag then varint32_at bytes else Ok (0, bytes)
+
+abbrev pub value_at : Kind → List ℕ → Read (List ℕ)
+value_at Deletion bytes = Ok ([], bytes)
+value_at SingleDeletion bytes = Ok ([], bytes)
+value_at _ bytes = prefixed_at bytes
+
+-- the change of this kind and sequence number, after its tag
+abbrev pub change_at : ℕ → ℕ → ℕ → Kind → List ℕ → Read Part
+change_at place sequence tag kind bytes = do
+  family ← family_at tag bytes
+  key ← prefixed_at family.1
+  value ← value_at kind key.1
+  Ok (change place (record { family = family.0; key = key.0; sequence = sequence; kind = kind; value = value.0 }), value.1)
+
+abbrev pub log_bytes_at : ℕ → List ℕ → Read Part
+log_bytes_at place bytes = do
+  slice ← prefixed_at bytes
+  Ok (log_bytes place slice.0, slice.1)
+
+-- the part with this tag, after the tag. It takes the sequence number if it is a change.
+abbrev pub part_of_tag : ℕ → ℕ → ℕ → List ℕ → Result (Part × List ℕ) BatchFault
+part_of_tag place sequence tag bytes =
+    if tag == 0x3 then reads_or (BadRecord place) (log_bytes_at place bytes)
+    else (if tag == 0xD then Ok (noop place, bytes)
+    else (if is_unsupported_tag tag then Err (UnsupportedTag tag)
+    else elim (kind_of_tag tag) [
+      | Some kind ↦ reads_or (BadRecord place) (change_at place sequence tag kind bytes)
+      | None ↦ Err (BadRecord place)
+    ]))
+
+-- The part at the front of a batch's last bytes. A change's sequence number is the batch's and the number
+-- of changes before it.
+abbrev pub part_at : ℕ → ℕ → List Part → List ℕ → Result (Part × List ℕ) BatchFault
+part_at batch_len sequence before bytes =
+    part_of_tag (batch_len - length bytes) (sequence + change_count before) (slice_index bytes 0) (drop 1 bytes)
+
+-- the batch's sequence number, and its count of changes as stated
+abbrev pub batch_sequence : List ℕ → ℕ
+batch_sequence bytes = little_endian (take 8 bytes)
+
+abbrev pub stated_count : List ℕ → ℕ
+stated_count bytes = little_endian (take 4 (drop 8 bytes))
+
+abbrev pub parts_after_header : List ℕ → Result (List Part) BatchFault
+parts_after_header bytes = in_turn (part_at (length bytes) (batch_sequence bytes)) (length bytes) [] (drop 12 bytes)
+
+pub record Batch : Type 0 where
+  pub sequence : ℕ
+  pub parts : List Part
+
+-- The batch that the bytes are, or the first fault.
+unfoldable pub batch_of : List ℕ → Result Batch BatchFault
+batch_of bytes = if nat_lt (length bytes) 12 then Err TooSmall else (do
+  parts ← parts_after_header bytes
+  if not (stated_count bytes == change_count parts) then Err (WrongCount (stated_count bytes) (change_count parts))
+      else (if nat_lt top_sequence (batch_sequence bytes + (change_count parts - 1)) then Err SequenceTop
+      else Ok (record { sequence = batch_sequence bytes; parts = parts })))
+
+-- puts of `a`, `b` and `c` from sequence number 5 on, with the count that is stated
+three_puts : ℕ → List ℕ
+three_puts count =
+    (5 ∷ 0 ∷ 0 ∷ 0 ∷ 0 ∷ 0 ∷ 0 ∷ 0 ∷ count ∷ 0 ∷ 0 ∷ 0 ∷ []) ++ (1 ∷ 1 ∷ codes "a") ++ (1 ∷ codes "1") ++ (1 ∷ 1 ∷ codes "b") ++ (1 ∷ codes "2")
+    ++ (1 ∷ 1 ∷ codes "c") ++ (1 ∷ codes "3")
+
+of_three_puts : batch_of (three_puts 3) ≡ Ok (record {
+  sequence = 5;
+  parts =
+      change 12 (record { family = 0; key = codes "a"; sequence = 5; kind = Value; value = codes "1" })
+      ∷ change 17 (record { family = 0; key = codes "b"; sequence = 6; kind = Value; value = codes "2" })
+      ∷ change 22 (record { family = 0; key = codes "c"; sequence = 7; kind = Value; value = codes "3" }) ∷ [];
+})
+unfolding batch_of in_turn three_puts
+of_three_puts = refl
+
+of_a_wrong_count : batch_of (three_puts 2) ≡ Err (WrongCount 2 3)
+unfolding batch_of in_turn three_puts
+of_a_wrong_count = refl
+
+-- a batch at the greatest sequence number, with the count that is stated and these records
+at_top : ℕ → List ℕ → List ℕ
+at_top count records = (0xFF ∷ 0xFF ∷ 0xFF ∷ 0xFF ∷ 0xFF ∷ 0xFF ∷ 0xFF ∷ 0 ∷ count ∷ 0 ∷ 0 ∷ 0 ∷ []) ++ records
+
+of_no_change : batch_of (at_top 0 (0xD ∷ 3 ∷ 2 ∷ codes "xy")) ≡ Ok (record { sequence = 2 ^ 56 - 1; parts = noop 12 ∷ log_bytes 13 (codes "xy") ∷ [] })
+unfolding batch_of in_turn at_top
+of_no_change = refl
+
+of_the_last_change : batch_of (at_top 1 (4 ∷ 2 ∷ 1 ∷ codes "a")) ≡ Ok (record {
+  sequence = 2 ^ 56 - 1;
+  parts = change 12 (record { family = 2; key = codes "a"; sequence = 2 ^ 56 - 1; kind = Deletion; value = [] }) ∷ [];
+})
+unfolding batch_of in_turn at_top
+of_the_last_change = refl
+
+of_one_change_too_many : batch_of (at_top 2 ((0 ∷ 1 ∷ codes "a") ++ (0 ∷ 1 ∷ codes "b"))) ≡ Err SequenceTop
+unfolding batch_of in_turn at_top
+of_one_change_too_many = refl
+
+-- The count is wrong as well, but is looked at later.
+of_a_cut_record : batch_of (at_top 0 (0xD ∷ 1 ∷ 1 ∷ 0x61 ∷ 2 ∷ codes "x")) ≡ Err (BadRecord 13)
+unfolding batch_of in_turn at_top
+of_a_cut_record = refl
+
+of_a_prepared_transaction : batch_of (at_top 0 (0xD ∷ 9 ∷ [])) ≡ Err (UnsupportedTag 9)
+unfolding batch_of in_turn at_top
+of_a_prepared_transaction = refl
+
+of_eleven_bytes : batch_of (replicate 11 0) ≡ Err TooSmall
+unfolding batch_of
+of_eleven_bytes = refl

@@ -1,0 +1,40 @@
+//! Internal keys and records.
+use crate::Bytes;
+
+/// What a record does to its key.
+#[derive(Clone, Copy, Debug, PartialEq, Eq)]
+pub enum Kind {
+    /// Deletes the key. Its number is 0.
+    Deletion,
+    /// Puts a value. Its number is 1.
+    Value,
+    /// Adds an operand for a merge. Its number is 2.
+    Merge,
+    /// Deletes a key that was put once. Its number is 7.
+    SingleDeletion,
+    /// Deletes the keys from its key up to its end, the end excluded. Its number is 15.
+    RangeDeletion,
+}
+
+/// Why an internal key doesn't read.
+#[derive(Clone, Copy, Debug, PartialEq, Eq)]
+pub enum KeyFault {
+    /// Fewer than 8 bytes.
+    Short,
+    /// The number of a kind that isn't supported: 16 to 31.
+    UnsupportedKind(u8),
+    /// Any other number that no kind has.
+    UnknownKind(u8),
+}
+
+/// What a table or a write batch says of a key, in a column family.
+#[derive(Debug, Drop)]
+pub struct Record {
+    pub family: u32,
+    /// The user key. The start of a range deletion.
+    pub key: Bytes,
+    pub sequence: u64,
+    pub kind: Kind,
+    /// Empty for a deletion. The end of a range deletion.
+    pub value: Bytes,
+}

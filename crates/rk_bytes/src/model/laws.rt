@@ -1,0 +1,78 @@
+//! Laws of the definitions. A law is the contract of a function that does nothing.
+ghost use Rattle.std.specs.Prelude.{◌≡◌, ◌↔◌, ℕ, ◌^◌, ◌<◌, ◌≤◌, List, [], ◌++◌, length, All, Ok, Some, None};
+ghost use Rattle.std.specs.List.{AllByRecursion};
+ghost use Rattle.std.specs.declared.cmp.Ordering.TheVariants.{Equal};
+ghost use Rattle.std.specs.Cmp.{IsTotalOrder};
+ghost use Rattle.rk_bytes.specs.declared.model.block.Handle.{Handle};
+ghost use Rattle.rk_bytes.specs.declared.model.key.Kind.{Kind};
+ghost use Rattle.rk_bytes.specs.declared.model.key.Record.{Record};
+ghost use Rattle.rk_bytes.specs.Model.Numbers.{varint_of, varint32_at, varint64_at};
+ghost use Rattle.rk_bytes.specs.Model.Checksums.{crc32c, crc32c_extended, mask, unmask};
+ghost use Rattle.rk_bytes.specs.Model.LogMarks.{Mark, log_marks};
+ghost use Rattle.rk_bytes.specs.Model.LogItems.{Item, Parts, EndsOnce, parting};
+ghost use Rattle.rk_bytes.specs.Model.InternalKey.{internal_key, key_parts, key_cmp};
+ghost use Rattle.rk_bytes.specs.Model.Records.{last_records, over, place_cmp};
+ghost use Rattle.rk_bytes.specs.Model.BlockEntries.{Entry, IsBlock, SpellsEntry, block_entries, SpellsDeltaEntry, no_handle, delta_handles};
+ghost use Rattle.rk_bytes.specs.Model.Output.{Command, Spells, command_of};
+
+/// A law: a mask loses nothing of a sum.
+pub fn mask_round_trip()
+    ensures { (sum : ℕ) → sum < 2 ^ 32 → unmask (mask sum) ≡ sum }
+{}
+
+/// A law: a sum is extended by the bytes that follow.
+pub fn crc32c_of_appended()
+    ensures { (front bytes : List ℕ) → crc32c_extended (crc32c front) bytes ≡ crc32c (front ++ bytes) }
+{}
+
+/// A law: a number's shortest varint is read again, whatever follows it.
+pub fn varint_round_trip()
+    ensures narrow { (n : ℕ) (rest : List ℕ) → n < 2 ^ 32 → varint32_at (varint_of n ++ rest) ≡ Ok (n, rest) }
+    ensures wide { (n : ℕ) (rest : List ℕ) → n < 2 ^ 64 → varint64_at (varint_of n ++ rest) ≡ Ok (n, rest) }
+{}
+
+/// Law: the marks of a log are parted into items in one way, the one that `parting` gives.
+pub fn one_parting()
+    ensures marks { (number : ℕ) (bytes : List ℕ) → EndsOnce (log_marks number bytes) }
+    ensures exists { (marks : List Mark) → EndsOnce marks → Parts marks (parting None marks) }
+    ensures unique { (marks : List Mark) (items others : List Item) → Parts marks items → Parts marks others → others ≡ items }
+{}
+
+/// A law: an internal key has the parts that it was made of.
+pub fn key_round_trip()
+    ensures { (user : List ℕ) (sequence : ℕ) (kind : Kind) → sequence < 2 ^ 56 → key_parts (internal_key user sequence kind) ≡ Ok (record { user = user; sequence = sequence; kind = kind }) }
+{}
+
+/// A law: internal keys are in a total order, in which no two keys of 8 bytes at least stand at one place.
+pub fn key_order()
+    ensures total { IsTotalOrder key_cmp }
+    ensures only_equal { (a b : List ℕ) → 8 ≤ length a → 8 ≤ length b → All (λ x. x < 256) a → All (λ x. x < 256) b → key_cmp a b ≡ Equal → a ≡ b }
+{}
+
+/// A law: places are in a total order.
+pub fn place_order()
+    ensures { IsTotalOrder place_cmp }
+{}
+
+/// A law: the last records of a list after another lie over those of the other.
+pub fn last_of_appended()
+    ensures { (a b : List Record) → last_records (a ++ b) ≡ over (last_records a) (last_records b) }
+{}
+
+/// Law: the entries that are read of a block are those that its bytes spell, and there is at most one
+/// list of them.
+pub fn one_block()
+    ensures read { (block : List ℕ) (entries : List (Entry (List ℕ))) → AllByRecursion (λ b. b < 2 ^ 8) block → (block_entries block ≡ Ok entries) ↔ IsBlock SpellsEntry [] block entries }
+    ensures unique { (block : List ℕ) (entries others : List (Entry (List ℕ))) → IsBlock SpellsEntry [] block entries → IsBlock SpellsEntry [] block others → others ≡ entries }
+{}
+
+/// Law: the same of an index block with delta-encoded handles.
+pub fn one_delta_index()
+    ensures read { (block : List ℕ) (entries : List (Entry Handle)) → AllByRecursion (λ b. b < 2 ^ 8) block → (delta_handles block ≡ Ok entries) ↔ IsBlock SpellsDeltaEntry no_handle block entries }
+    ensures unique { (block : List ℕ) (entries others : List (Entry Handle)) → IsBlock SpellsDeltaEntry no_handle block entries → IsBlock SpellsDeltaEntry no_handle block others → others ≡ entries }
+{}
+
+/// Law: the command of a list of words is the one that they spell, and there is at most one.
+pub fn one_command()
+    ensures { (words : List (List ℕ)) (command : Command) → (command_of words ≡ Some command) ↔ Spells words command }
+{}
