@@ -28,7 +28,7 @@ impl Bytes {
         }
     }
 
-    /// A copy of the bytes.
+    /// A copy of the bytes. `Memory` comes only where memory runs out.
     pub fn copy_of(alloc: Global, bytes: &[u8]) -> Result<Bytes, Memory>
         ensures { IfOk result (λ copy. copy ≡ bytes.now) }
     {
@@ -37,7 +37,7 @@ impl Bytes {
         })
     }
 
-    /// The same list, taking no memory.
+    /// The list's own bytes, taking no memory.
     pub fn from_vec(items: Vec<u8>) -> Bytes
         ensures { result ≡ items.items }
     {
@@ -52,13 +52,14 @@ impl Bytes {
         items
     }
 
+    /// All of the bytes.
     pub fn as_slice(&self) -> &[u8]
         ensures { result.now ≡ self.now }
     {
         self.items.as_slice()
     }
 
-    /// Puts the bytes at the end, or changes nothing.
+    /// Puts the bytes at the end. Where memory runs out, it changes nothing.
     pub fn append(&mut self, bytes: &[u8]) -> Result<(), Memory>
         ensures ok { OnOk result (self.new ≡ self.old ++ bytes.now) }
         ensures err { OnErr result (self.new ≡ self.old) }

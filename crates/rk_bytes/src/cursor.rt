@@ -6,7 +6,7 @@ use crate::model::NumFault;
 use std::marker::Model;
 
 /// A place in bytes, from which values are read in turn. A refused call leaves it where it is.
-#[derive(Debug)]
+#[derive(Debug, Drop)]
 pub struct Cursor<'a> {
     bytes: &'a [u8],
     place: usize,

@@ -31,7 +31,7 @@ impl<T> Seq<T> {
         }
     }
 
-    /// The same list, taking no memory.
+    /// The list's own items, taking no memory.
     pub fn from_vec(items: Vec<T>) -> Seq<T>
         ensures { result ≡ items.items }
     {
@@ -46,6 +46,7 @@ impl<T> Seq<T> {
         items
     }
 
+    /// All of the items, in their order.
     pub fn as_slice(&self) -> &[T]
         ensures { result.now ≡ self.now }
     {
@@ -54,7 +55,7 @@ impl<T> Seq<T> {
 }
 
 impl<T: Drop> Seq<T> {
-    /// Puts the item at the end, or changes nothing and drops the item.
+    /// Puts the item at the end. Where memory runs out, it changes nothing and drops the item.
     pub fn push(&mut self, item: T) -> Result<(), Memory>
         ensures ok { OnOk result (self.new ≡ self.old ++ item ∷ []) }
         ensures err { OnErr result (self.new ≡ self.old) }

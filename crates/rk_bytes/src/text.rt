@@ -19,7 +19,7 @@ impl Model for Text {
 }
 
 impl Text {
-    /// A copy of the text.
+    /// A copy of the text. `Memory` comes only where memory runs out.
     pub fn copy_of(alloc: Global, text: &str) -> Result<Text, Memory>
         ensures { IfOk result (λ copy. copy ≡ text.now) }
     {
@@ -28,6 +28,7 @@ impl Text {
         })
     }
 
+    /// The whole text.
     pub fn as_str(&self) -> &str
         ensures { result.now ≡ self.now }
     {

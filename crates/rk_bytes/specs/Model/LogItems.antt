@@ -1,4 +1,5 @@
--- The records of a log, and what is left out between them: the marks of LogMarks, parted.
+-- The records of a log, and what is left out between them: the marks of LogMarks, parted
+-- (db/log_reader.cc). The reasons and places of gaps and ends are this project's own rule.
 use Rattle.std.specs.Prelude.{◌≡◌, ℕ, Bool, true, false, List, [], ◌∷◌, ◌++◌, Option, Some, None, refl}
 use Rattle.rk_bytes.specs.declared.model.log.GapWhy.{GapWhy}
 use Rattle.rk_bytes.specs.declared.model.log.GapWhy.TheVariants.{Checksum, MissingStart, MissingEnd}
@@ -12,7 +13,7 @@ pub data Item : Type 0 where
   gap : GapWhy → ℕ → Item
   end : EndKind → ℕ → Item
 
-abbrev pub is_first : Mark → Bool
+abbrev is_first : Mark → Bool
 is_first (first payload place) = true
 is_first _ = false
 
@@ -28,7 +29,7 @@ middles (middle payload place ∷ marks) = payload ++ middles marks
 middles _ = []
 
 -- the marks after the middles at the front
-abbrev pub after_middles : List Mark → List Mark
+abbrev after_middles : List Mark → List Mark
 after_middles (middle payload place ∷ marks) = after_middles marks
 after_middles marks = marks
 

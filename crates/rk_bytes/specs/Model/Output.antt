@@ -1,5 +1,6 @@
 -- What the program writes, and its status (this project's own rules).
-use Rattle.std.specs.Prelude.{◌≡◌, ℕ, ◌^◌, ◌<◌, ◌&&◌, List, [], ◌∷◌, ◌++◌, length, map, flat_map, take, nat_lt, if◌then◌else◌, Option, Some, None, option_map, bytes_eq, codes, decimal}
+use Rattle.std.specs.Prelude.{◌≡◌, ℕ, ◌-◌, ◌^◌, ◌<◌, ◌&&◌, List, [], ◌∷◌, ◌++◌, length, map, flat_map, take, nat_lt, if◌then◌else◌, Option, Some, None, option_map, bytes_eq, codes, decimal, refl}
+use Rattle.std.specs.Fmt.{digits}
 use Rattle.std.specs.Str.Parse.{digits_value}
 use Rattle.std.specs.FinMap.{get}
 use Rattle.rk_bytes.specs.declared.model.log.GapWhy.{GapWhy}
@@ -10,6 +11,7 @@ use Rattle.rk_bytes.specs.declared.model.status.Status.{Status}
 use Rattle.rk_bytes.specs.declared.model.status.Status.TheVariants.{Done, Refused, Usage, DiskFault, SinkFault, Memory}
 use Rattle.rk_bytes.specs.Model.DiskImages.{Directory}
 use Rattle.rk_bytes.specs.Model.FileNames.{log_name}
+use Rattle.rk_bytes.specs.Model.LogMarks.{blocks_marks, block_len, log_marks}
 use Rattle.rk_bytes.specs.Model.LogItems.{Item, rec, gap, end, log_items}
 
 pub data Command : Type 0 where
@@ -105,3 +107,27 @@ TookLines before after lines bytes = (n : ℕ) × Took before after (joined (tak
 -- it took a front of these bytes
 abbrev pub TookFront : Option (List ℕ) → Option (List ℕ) → List ℕ → Type 0
 TookFront before after bytes = (n : ℕ) × Took before after (take n bytes)
+
+of_an_unsupported_end : item_line (end (Unsupported 5) 40) ≡ line (codes "end 40 Unsupported 5")
+unfolding digits
+of_an_unsupported_end = refl
+
+of_an_empty_log : dump_wal_output 3 (Some []) ≡ record { lines = line (codes "end 0 Clean") ∷ []; status = Done }
+unfolding log_marks blocks_marks block_len digits
+of_an_empty_log = refl
+
+of_no_log : dump_wal_output 3 None ≡ record { lines = line (codes "refused: NoLog 3") ∷ []; status = Refused }
+unfolding digits
+of_no_log = refl
+
+another_spelling : command_of (codes "dump_wal" ∷ codes "03" ∷ []) ≡ None
+unfolding digits
+another_spelling = refl
+
+greatest_number : command_of (codes "dump_wal" ∷ codes "18446744073709551615" ∷ []) ≡ Some (dump_wal (2 ^ 64 - 1))
+unfolding digits
+greatest_number = refl
+
+too_great_a_number : command_of (codes "dump_wal" ∷ codes "18446744073709551616" ∷ []) ≡ None
+unfolding digits
+too_great_a_number = refl

@@ -15,17 +15,17 @@ ghost use Rattle.rk_bytes.specs.Model.Records.{last_records, over, place_cmp};
 ghost use Rattle.rk_bytes.specs.Model.BlockEntries.{Entry, IsBlock, SpellsEntry, block_entries, SpellsDeltaEntry, no_handle, delta_handles};
 ghost use Rattle.rk_bytes.specs.Model.Output.{Command, Spells, command_of};
 
-/// A law: a mask loses nothing of a sum.
+/// Law: a mask loses nothing of a sum.
 pub fn mask_round_trip()
     ensures { (sum : ℕ) → sum < 2 ^ 32 → unmask (mask sum) ≡ sum }
 {}
 
-/// A law: a sum is extended by the bytes that follow.
+/// Law: a sum is extended by the bytes that follow.
 pub fn crc32c_of_appended()
     ensures { (front bytes : List ℕ) → crc32c_extended (crc32c front) bytes ≡ crc32c (front ++ bytes) }
 {}
 
-/// A law: a number's shortest varint is read again, whatever follows it.
+/// Law: a number's shortest varint is read again, whatever follows it.
 pub fn varint_round_trip()
     ensures narrow { (n : ℕ) (rest : List ℕ) → n < 2 ^ 32 → varint32_at (varint_of n ++ rest) ≡ Ok (n, rest) }
     ensures wide { (n : ℕ) (rest : List ℕ) → n < 2 ^ 64 → varint64_at (varint_of n ++ rest) ≡ Ok (n, rest) }
@@ -38,23 +38,23 @@ pub fn one_parting()
     ensures unique { (marks : List Mark) (items others : List Item) → Parts marks items → Parts marks others → others ≡ items }
 {}
 
-/// A law: an internal key has the parts that it was made of.
+/// Law: an internal key has the parts that it was made of.
 pub fn key_round_trip()
     ensures { (user : List ℕ) (sequence : ℕ) (kind : Kind) → sequence < 2 ^ 56 → key_parts (internal_key user sequence kind) ≡ Ok (record { user = user; sequence = sequence; kind = kind }) }
 {}
 
-/// A law: internal keys are in a total order, in which no two keys of 8 bytes at least stand at one place.
+/// Law: internal keys are in a total order, in which no two keys of 8 bytes at least stand at one place.
 pub fn key_order()
     ensures total { IsTotalOrder key_cmp }
     ensures only_equal { (a b : List ℕ) → 8 ≤ length a → 8 ≤ length b → All (λ x. x < 256) a → All (λ x. x < 256) b → key_cmp a b ≡ Equal → a ≡ b }
 {}
 
-/// A law: places are in a total order.
+/// Law: places are in a total order.
 pub fn place_order()
     ensures { IsTotalOrder place_cmp }
 {}
 
-/// A law: the last records of a list after another lie over those of the other.
+/// Law: the last records of a list after another lie over those of the other.
 pub fn last_of_appended()
     ensures { (a b : List Record) → last_records (a ++ b) ≡ over (last_records a) (last_records b) }
 {}
