@@ -73,7 +73,7 @@ impl<'r, R: Files> FolderDisk<'r, R> {
     }
 
     // The length of the regular file at the path, also at a link's end, or `None` where there is none.
-    fn file_length(&self, path: Path<'_>) -> io::Result<Option<u64>>
+    fn length_at(&self, path: Path<'_>) -> io::Result<Option<u64>>
         ensures { IfErr result (λ error. error_kind error ≢ ErrorKind.NotFound) }
     {
         match self.metadata(path)? {
@@ -82,19 +82,35 @@ impl<'r, R: Files> FolderDisk<'r, R> {
         }
     }
 
+    // The path of the file of that name and its length, or `None` where there is none. A name leads
+    // to no other folder than `lost`.
+    fn find(&self, name: &str) -> io::Result<Option<(PathBuf, u64)>>
+        ensures { IfErr result (λ error. error_kind error ≢ ErrorKind.NotFound) }
+    {
+        if name.strip_prefix("lost/").unwrap_or(name).contains('/') {
+            return Ok(None);
+        }
+        let path = self.path.join(self.alloc, name)?;
+        match self.length_at(path.as_path())? {
+            Some(length) => Ok(Some((path, length))),
+            None => Ok(None),
+        }
+    }
+
     fn length_of(&self, name: &str) -> io::Result<Option<u64>>
         ensures { IfErr result (λ error. error_kind error ≢ ErrorKind.NotFound) }
     {
-        let path = self.path.join(self.alloc, name)?;
-        self.file_length(path.as_path())
+        match self.find(name)? {
+            Some((_, length)) => Ok(Some(length)),
+            None => Ok(None),
+        }
     }
 
     fn part_of(&self, name: &str, at: u64, buf: &mut [u8]) -> io::Result<usize>
         ensures { IfOk result (λ n. n ≤ length buf.old) }
     {
-        let path = self.path.join(self.alloc, name)?;
-        match self.file_length(path.as_path())? {
-            Some(length) if at < length => {
+        match self.find(name)? {
+            Some((path, length)) if at < length => {
                 let mut file = File::open(self.rt, path.as_path())?;
                 file.seek(SeekFrom::Start(at))?;
                 fill(&mut file, buf)
@@ -123,7 +139,7 @@ impl<'r, R: Files> FolderDisk<'r, R> {
     fn list(&self, folder: Path<'_>, prefix: &str, names: &mut Vec<String>) -> io::Result<()> {
         for entry in fs::read_dir(&(self.rt, self.alloc), folder)? {
             let entry = entry?;
-            if self.file_length(entry.path())?.is_some() {
+            if self.length_at(entry.path())?.is_some() {
                 let name = entry.file_name();
                 names.push(format!(in self.alloc; "{prefix}{name}")?)?;
             }
