@@ -15,7 +15,7 @@ use std::rt::Files;
 use std::{fs, io};
 
 /// A folder of the system as a disk: its files, and those of its subfolder `lost` as `lost/NAME`.
-/// It tells no contents. Contracts see the count of its failures.
+/// It tells no contents. Contracts see the folder's path and the count of its failures.
 #[derive(Drop)]
 pub struct FolderDisk<'r, R> {
     rt: &'r R,
@@ -25,18 +25,19 @@ pub struct FolderDisk<'r, R> {
 }
 
 impl<'r, R> Model for FolderDisk<'r, R> {
-    ghost use Rattle.std.specs.Prelude.{ℕ};
+    ghost use Rattle.std.specs.Path.{path_buf_bytes};
+    ghost use Rattle.rescue.specs.FolderDisk.{Folder};
 
-    ghost Value = { ℕ };
+    ghost Value = { Folder };
 
-    ghost view = { λ disk. disk.failures };
+    ghost view = { λ disk. record { path = path_buf_bytes disk.path; failures = disk.failures } };
 }
 
 impl<'r, R: Files> FolderDisk<'r, R> {
     /// The folder at the path. Nothing is asked of the system yet, and the path is copied: `Memory`
     /// comes where there is none for it.
     pub fn new(rt: &'r R, alloc: Global, path: &str) -> Result<FolderDisk<'r, R>, Memory>
-        ensures { IfOk result (λ disk. disk ≡ 0) }
+        ensures { IfOk result (λ disk. disk ≡ record { path = path.now; failures = 0 }) }
     {
         Ok(FolderDisk {
             rt,
@@ -49,7 +50,8 @@ impl<'r, R: Files> FolderDisk<'r, R> {
     // The answer to the caller. A failure of the system is counted, and want of memory isn't one.
     fn counted<T>(&mut self, answer: io::Result<T>) -> Result<T, DiskErr>
         ensures value { IfOk result (λ value. answer ≡ Ok value) }
-        ensures count { Counts (disk_failed result) self.old self.new }
+        ensures count { Counts (disk_failed result) self.old.failures self.new.failures }
+        ensures path { self.new.path ≡ self.old.path }
     {
         match answer {
             Ok(value) => Ok(value),
@@ -73,7 +75,7 @@ impl<'r, R: Files> FolderDisk<'r, R> {
     }
 
     // The length of the regular file at the path, also at a link's end, or `None` where there is none.
-    fn file_length(&self, path: Path<'_>) -> io::Result<Option<u64>>
+    fn length_at(&self, path: Path<'_>) -> io::Result<Option<u64>>
         ensures { IfErr result (λ error. error_kind error ≢ ErrorKind.NotFound) }
     {
         match self.metadata(path)? {
@@ -82,19 +84,35 @@ impl<'r, R: Files> FolderDisk<'r, R> {
         }
     }
 
+    // The path of the file of that name and its length, or `None` where there is none. A name leads
+    // to no other folder than `lost`.
+    fn find(&self, name: &str) -> io::Result<Option<(PathBuf, u64)>>
+        ensures { IfErr result (λ error. error_kind error ≢ ErrorKind.NotFound) }
+    {
+        if name.strip_prefix("lost/").unwrap_or(name).contains('/') {
+            return Ok(None);
+        }
+        let path = self.path.join(self.alloc, name)?;
+        match self.length_at(path.as_path())? {
+            Some(length) => Ok(Some((path, length))),
+            None => Ok(None),
+        }
+    }
+
     fn length_of(&self, name: &str) -> io::Result<Option<u64>>
         ensures { IfErr result (λ error. error_kind error ≢ ErrorKind.NotFound) }
     {
-        let path = self.path.join(self.alloc, name)?;
-        self.file_length(path.as_path())
+        match self.find(name)? {
+            Some((_, length)) => Ok(Some(length)),
+            None => Ok(None),
+        }
     }
 
     fn part_of(&self, name: &str, at: u64, buf: &mut [u8]) -> io::Result<usize>
         ensures { IfOk result (λ n. n ≤ length buf.old) }
     {
-        let path = self.path.join(self.alloc, name)?;
-        match self.file_length(path.as_path())? {
-            Some(length) if at < length => {
+        match self.find(name)? {
+            Some((path, length)) if at < length => {
                 let mut file = File::open(self.rt, path.as_path())?;
                 file.seek(SeekFrom::Start(at))?;
                 fill(&mut file, buf)
@@ -123,7 +141,7 @@ impl<'r, R: Files> FolderDisk<'r, R> {
     fn list(&self, folder: Path<'_>, prefix: &str, names: &mut Vec<String>) -> io::Result<()> {
         for entry in fs::read_dir(&(self.rt, self.alloc), folder)? {
             let entry = entry?;
-            if self.file_length(entry.path())?.is_some() {
+            if self.length_at(entry.path())?.is_some() {
                 let name = entry.file_name();
                 names.push(format!(in self.alloc; "{prefix}{name}")?)?;
             }
@@ -135,7 +153,7 @@ impl<'r, R: Files> FolderDisk<'r, R> {
 impl<'r, R: Files> Disk for FolderDisk<'r, R> {
     ghost contents = { λ _. None };
 
-    ghost faults = { λ failures. failures };
+    ghost faults = { λ disk. disk.failures };
 
     fn names(&mut self, alloc: Global) -> Result<Seq<Text>, DiskErr> {
         let answer = self.all_names();

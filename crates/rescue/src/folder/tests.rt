@@ -1,6 +1,7 @@
 ghost use Rattle.std.specs.Prelude.{◌≤◌, IfOk, length};
 
 use super::*;
+use std::alloc::AllocError;
 use std::rt::Env;
 use std::test::Fail;
 use std::{env, process};
@@ -48,7 +49,21 @@ fn fill_goes_on_after_an_interruption_alone(rt: HostRuntime) -> Result<(), Fail>
     Ok(())
 }
 
-// The size of a file, and its bytes from a place on, as far as the buffer goes.
+fn names_of<D: Disk>(disk: &mut D, alloc: Global) -> Result<Seq<Text>, DiskErr> {
+    disk.names(alloc)
+}
+
+// The texts, each with a space behind it.
+fn spaced(alloc: Global, texts: &[Text]) -> Result<String, AllocError> {
+    let mut spaced = String::new(alloc);
+    for text in texts {
+        spaced.push_str(text.as_str())?;
+        spaced.push_str(" ")?;
+    }
+    Ok(spaced)
+}
+
+// The size of a file, and how many of its bytes the buffer got.
 fn look<D: Disk>(
     disk: &mut D,
     name: &str,
@@ -62,23 +77,21 @@ fn look<D: Disk>(
     Ok((size, n))
 }
 
-fn names_of<D: Disk>(disk: &mut D, alloc: Global) -> Result<Seq<Text>, DiskErr> {
-    disk.names(alloc)
-}
-
-// A new folder that holds a few files and two folders.
-fn make_folder<R: Files + Env + AllocGlobal>(rt: &R, name: &str) -> io::Result<PathBuf> {
-    let folder = env::temp_dir(rt)?.join(rt.alloc(), name)?;
+// A new folder of the system that holds a few files and two folders.
+fn make_folder<R: Files + Env + AllocGlobal>(rt: &R, id: u32) -> io::Result<PathBuf> {
+    let alloc = rt.alloc();
+    let name = format!(in alloc; "rescue-{id}")?;
+    let folder = env::temp_dir(rt)?.join(alloc, name.as_str())?;
     for made in ["", "lost", "other"] {
-        fs::create_dir(rt, folder.join(rt.alloc(), made)?)?;
+        fs::create_dir(rt, folder.join(alloc, made)?)?;
     }
     for (file, text) in [
-        ("000003.log", "0123456789"),
         ("CURRENT", "MANIFEST-000002\n"),
+        ("000003.log", "0123456789"),
         ("lost/000002.log", "ab"),
         ("other/000001.log", "cd"),
     ] {
-        fs::write(rt, folder.join(rt.alloc(), file)?, text)?;
+        fs::write(rt, folder.join(alloc, file)?, text)?;
     }
     Ok(folder)
 }
@@ -86,16 +99,10 @@ fn make_folder<R: Files + Env + AllocGlobal>(rt: &R, name: &str) -> io::Result<P
 #[test]
 fn the_system_is_reached(rt: HostRuntime) -> Result<(), Fail> {
     let alloc = rt.alloc();
-    let name = format!(in alloc; "rescue-{}", process::id(rt.process()))?;
-    let folder = make_folder(&rt, name.as_str())?;
+    let folder = make_folder(&rt, process::id(rt.process()))?;
     let mut disk = FolderDisk::new(&rt, alloc, folder.as_str())?;
-    let names = names_of(&mut disk, alloc)?;
-    let mut found = String::new(alloc);
-    for name in names.as_slice() {
-        found.push_str(name.as_str())?;
-        found.push_str(" ")?;
-    }
-    assert_eq!(rt; found.as_str(), "000003.log CURRENT lost/000002.log ");
+    let names = spaced(alloc, names_of(&mut disk, alloc)?.as_slice())?;
+    assert_eq!(rt; names.as_str(), "000003.log CURRENT lost/000002.log ");
     let mut buf = [0; 4];
     for (name, at, size, bytes) in [
         ("000003.log", 0, Some(10), "0123"),
@@ -105,6 +112,7 @@ fn the_system_is_reached(rt: HostRuntime) -> Result<(), Fail> {
         ("lost/000002.log", 1, Some(2), "b"),
         ("000004.log", 0, None, ""),
         ("other", 0, None, ""),
+        ("other/000001.log", 0, None, ""),
     ] {
         let (length, n) = look(&mut disk, name, at, &mut buf)?;
         assert_eq!(rt; length, size, "{name}");
@@ -116,17 +124,11 @@ fn the_system_is_reached(rt: HostRuntime) -> Result<(), Fail> {
 
 #[test]
 fn failures_are_counted(rt: HostRuntime) -> Result<(), Fail> {
-    let alloc = rt.alloc();
-    let mut disk = FolderDisk::new(&rt, alloc, "/absent/folder")?;
-    assert_eq!(rt; names_of(&mut disk, alloc).is_err(), true);
-    assert_eq!(rt; disk.failures, 1);
-    assert_eq!(rt; disk.size("000003.log")?, None);
-    assert_eq!(rt; disk.failures, 1);
+    let mut disk = FolderDisk::new(&rt, rt.alloc(), "/absent/folder")?;
+    assert_eq!(rt; look(&mut disk, "000003.log", 0, &mut [])?, (None, 0));
+    assert!(rt; names_of(&mut disk, rt.alloc()).is_err());
     assert_eq!(rt; disk.size("no\0name"), Err(DiskErr::Failed));
     assert_eq!(rt; disk.read("no\0name", 0, &mut []), Err(DiskErr::Failed));
     assert_eq!(rt; disk.failures, 3);
-    disk.failures = u64::MAX;
-    assert_eq!(rt; disk.size("no\0name"), Err(DiskErr::Failed));
-    assert_eq!(rt; disk.failures, u64::MAX);
     Ok(())
 }
