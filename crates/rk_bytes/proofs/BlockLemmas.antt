@@ -25,7 +25,7 @@ with_own {V} entry place key place_is key_is =
     ∙ ap (λ (k : List ℕ). let own : Entry V = record { place = entry.place; shared = entry.shared; key = k; value = entry.value } in own) (sym key_is)
 
 -- a step of the reading of entries
-pub entries_after-more : {V F : Type 0} (next : Entry V → List ℕ → Result (Entry V × List ℕ) F) (n : ℕ) (before : Entry V) (bytes : List ℕ) → 1 ≤ length bytes
+entries_after-more : {V F : Type 0} (next : Entry V → List ℕ → Result (Entry V × List ℕ) F) (n : ℕ) (before : Entry V) (bytes : List ℕ) → 1 ≤ length bytes
     → entries_after next (suc n) before bytes ≡ (next before bytes >>= λ entry. entries_after next n entry.0 entry.1 >>= λ entries. Ok (entry.0 ∷ entries))
 unfolding entries_after
 entries_after-more next n before [] some = absurd (omega arith)

@@ -96,13 +96,13 @@ varint_len [] groups = absurd groups
 varint_len (b ∷ part) groups = omega arith
 
 -- A varint of at most so many bytes and bits.
-pub record SpellsVarint (most bits : ℕ) (part : List ℕ) (n : ℕ) : Type 0 where
-  pub groups : IsVarint part
-  pub short : length part ≤ most
-  pub fits : n < 2 ^ bits
-  pub value : n ≡ groups_value part
+record SpellsVarint (most bits : ℕ) (part : List ℕ) (n : ℕ) : Type 0 where
+  groups : IsVarint part
+  short : length part ≤ most
+  fits : n < 2 ^ bits
+  value : n ≡ groups_value part
 
-pub varint_at_ok : (most bits : ℕ) (bytes : List ℕ) (r : ℕ × List ℕ) → AllByRecursion (λ b. b < 256) bytes → varint_at most bits bytes ≡ Ok r → (part : List ℕ) × (bytes ≡ part ++ r.1) × SpellsVarint most bits part r.0
+varint_at_ok : (most bits : ℕ) (bytes : List ℕ) (r : ℕ × List ℕ) → AllByRecursion (λ b. b < 256) bytes → varint_at most bits bytes ≡ Ok r → (part : List ℕ) × (bytes ≡ part ++ r.1) × SpellsVarint most bits part r.0
 varint_at_ok most bits bytes r are e =
     let len = high_count bytes + 1 in
     let short = passed (nat_lt most len) _ _ r e in
@@ -120,7 +120,7 @@ varint_at_ok most bits bytes r are e =
       },
     )
 
-pub varint_at-append : (most bits : ℕ) (part rest : List ℕ) (n : ℕ) → SpellsVarint most bits part n → varint_at most bits (part ++ rest) ≡ Ok (n, rest)
+varint_at-append : (most bits : ℕ) (part rest : List ℕ) (n : ℕ) → SpellsVarint most bits part n → varint_at most bits (part ++ rest) ≡ Ok (n, rest)
 varint_at-append most bits part rest n v =
     let len : high_count (part ++ rest) + 1 ≡ length part = add-one (high_count (part ++ rest)) ∙ high_count-varint part rest v.groups in
     let fits : length part ≤ length (part ++ rest) = omega (arith, length-append part rest) in
