@@ -10,3 +10,6 @@ pub mod sum;
 pub use item::{Item, Piece};
 pub use reader::LogReader;
 pub use rk_bytes::model::{EndKind, GapWhy};
+
+#[cfg(test)]
+mod tests;
