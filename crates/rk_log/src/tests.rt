@@ -7,9 +7,10 @@ use std::test::Fail;
 
 const BLOCK_LEN: usize = 32_768;
 
-// The full records of the payloads "a" and "b".
+// The full record of the payload "a".
 const A: [u8; 8] = [0xB5, 0xCD, 0x0B, 0xA2, 1, 0, 1, b'a'];
 
+// The full record of the payload "b".
 const B: [u8; 8] = [0x54, 0xAF, 0xE3, 0xBA, 1, 0, 1, b'b'];
 
 // A with another stored sum.
