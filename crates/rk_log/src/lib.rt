@@ -1,4 +1,5 @@
-//! The records of a write-ahead log or a manifest, read from the bytes of its file.
+//! The records of a write-ahead log or a manifest, read from the bytes of its file, and the checksum
+//! that is stored with each of them.
 #![tactic(auto)]
 
 mod fragment;
