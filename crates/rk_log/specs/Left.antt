@@ -1,4 +1,4 @@
--- The items that are left where a part of a log's file is.
+-- The marks and the items that are left behind a place of a log's file, by what is left of its bytes.
 use Rattle.std.specs.Prelude.{◌+◌, List, ◌++◌, length, None}
 use Rattle.rk_bytes.specs.Model.LogMarks.{Mark, block_marks, blocks_marks, block_count, up_to_end}
 use Rattle.rk_bytes.specs.Model.LogItems.{Item, parting}

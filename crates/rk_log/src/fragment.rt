@@ -5,11 +5,13 @@ ghost use Rattle.rk_log.specs.Fragments.{Shows};
 use crate::sum;
 use rk_bytes::model::{EndKind, GapWhy};
 
-/// The masked checksum (4 bytes), the payload's length (2 bytes) and the type.
+/// The length of a header, in bytes: the masked checksum (4), the payload's length (2) and the type.
 const HEADER_LEN: usize = 7;
 
+/// The type of a header that stands for nothing, if its length is 0 too.
 const ZERO: u8 = 0;
 
+/// The type of a record that isn't split.
 const FULL: u8 = 1;
 
 /// What stands at the front of the rest of a block.
@@ -17,15 +19,17 @@ const FULL: u8 = 1;
 pub(crate) enum Found<'a> {
     /// Nothing up to the block's end: padding, or a zero header.
     Nothing,
-    /// The end of all reading.
+    /// The end of all reading, of this kind.
     End(EndKind),
-    /// So many bytes that are left out.
+    /// So many bytes that are left out, and why.
     Gap(GapWhy, usize),
     /// A whole record's payload, and the length of header and payload together.
     Record(&'a [u8], usize),
 }
 
-/// Makes the tests of the format, in their order, at the front of the rest of a block.
+/// Makes the tests of the format, in their order, at the front of the rest of a block. `is_full` says
+/// whether the block has its full length: its bytes are left out where those of a shorter one, which
+/// the file's end cuts off, are torn.
 pub(crate) fn find(block: &[u8], is_full: bool) -> Found<'_>
     ensures { Shows is_full block.now result }
 {

@@ -27,7 +27,8 @@ impl<'a> Model for LogReader<'a> {
 }
 
 impl<'a> LogReader<'a> {
-    /// Before the first item of the file of the log with this number. Takes no memory.
+    /// Before the first item of the file of the log with this number. Takes no memory. The number isn't
+    /// looked at yet, since only recyclable headers repeat it.
     pub fn new(bytes: &'a [u8], number: u64) -> LogReader<'a>
         ensures { result ≡ log_items number bytes.now }
     {
@@ -37,8 +38,8 @@ impl<'a> LogReader<'a> {
         }
     }
 
-    /// The next item, and after the end that end again. Takes no memory so far, since no record that
-    /// is split is read yet.
+    /// The next item, and after the end that end again. `Memory` doesn't come yet, since no split record
+    /// is read so far, which would have to be joined.
     pub fn next(&mut self, _alloc: Global) -> Result<Item<'a>, Memory>
         ensures given { IfOk result (λ item. Gives self.old (item_of item) self.new) }
         ensures succeeds { IsOk result }

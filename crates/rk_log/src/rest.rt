@@ -12,12 +12,13 @@ const BLOCK_LEN: usize = 32_768;
 /// What is left of a log's file.
 #[derive(Debug, Drop)]
 pub(crate) struct Rest<'a> {
-    /// The rest of the block, and the place where it begins.
+    /// The rest of the block.
     block: &'a [u8],
+    /// The place in the file where it begins.
     place: u64,
-    /// Whether the block is a full one.
+    /// Whether the block has its full length.
     is_full: bool,
-    /// The blocks after it.
+    /// The blocks after it, the last of them perhaps in part.
     later: &'a [u8],
     ghost fits: { place + (length block.now + length later.now) < 2 ^ 64 },
 }
@@ -91,7 +92,7 @@ impl<'a> Rest<'a> {
     }
 }
 
-/// The first block of the bytes, and what follows it.
+/// The first block of the bytes, which is shorter where they end, and what follows it.
 fn cut_block(bytes: &[u8]) -> (&[u8], &[u8])
     ensures block { result.0.now ≡ take block_len bytes.now }
     ensures later { result.1.now ≡ drop block_len bytes.now }

@@ -6,7 +6,7 @@ mod tables;
 
 use tables::TABLES;
 
-// What a rotated sum is raised by.
+/// What a rotated sum is raised by.
 const MASK_DELTA: u32 = 0xA282_EAD8;
 
 /// The CRC32C of the bytes (polynomial 0x1EDC6F41, reflected).
@@ -25,7 +25,7 @@ pub fn mask(sum: u32) -> u32
     sum.rotate_right(15).wrapping_add(MASK_DELTA)
 }
 
-// The register after these bytes, taken eight at a time.
+/// The register after these bytes, taken eight at a time.
 fn after_bytes(mut register: u32, bytes: &[u8]) -> u32
     ensures { result ≡ crc_bytes register bytes.now }
 {
@@ -37,7 +37,7 @@ fn after_bytes(mut register: u32, bytes: &[u8]) -> u32
     after_few(register, rest)
 }
 
-// The register after these bytes, taken one at a time.
+/// The register after these bytes, taken one at a time.
 fn after_few(mut register: u32, bytes: &[u8]) -> u32
     ensures { result ≡ crc_bytes register bytes.now }
 {
@@ -49,8 +49,8 @@ fn after_few(mut register: u32, bytes: &[u8]) -> u32
     register
 }
 
-// The register after these eight bytes. Their second half comes first, since it does not wait for
-// the register.
+/// The register after these eight bytes. Their second half comes first, since it does not wait for
+/// the register.
 #[inline(always)]
 fn after_eight(register: u32, bytes: [u8; 8]) -> u32
     ensures { result ≡ crc_bytes register bytes }
@@ -61,8 +61,8 @@ fn after_eight(register: u32, bytes: [u8; 8]) -> u32
     after_word(second, 0) ^ after_word(register ^ first, 4)
 }
 
-// What a register that holds this word is once the word and so many bytes of zeros have gone through
-// it.
+/// What a register that holds this word is once the word and so many bytes of zeros have gone through
+/// it.
 #[inline(always)]
 fn after_word(word: u32, zeros: usize) -> u32
     requires { zeros ≤ 4 }
@@ -75,8 +75,8 @@ fn after_word(word: u32, zeros: usize) -> u32
         ^ after_byte(b3, zeros)
 }
 
-// What a register that holds this byte is once the byte and so many bytes of zeros have gone through
-// it.
+/// What a register that holds this byte is once the byte and so many bytes of zeros have gone through
+/// it.
 #[inline(always)]
 fn after_byte(byte: u8, zeros: usize) -> u32
     requires { zeros < 8 }

@@ -1,5 +1,5 @@
-// Row k has for each byte what a register that holds it is once the byte and k bytes of zeros have
-// gone through it.
+/// Row k has for each byte what a register that holds it is once the byte and k bytes of zeros have
+/// gone through it.
 pub(super) static TABLES: [[u32; 256]; 8] = [
     [
         0x00000000, 0xF26B8303, 0xE13B70F7, 0x1350F3F4, 0xC79A971F, 0x35F1141C, 0x26A1E7E8,
