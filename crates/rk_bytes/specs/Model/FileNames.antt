@@ -43,12 +43,13 @@ printed_name _ = []
 abbrev pub named_number : (ℕ → List ℕ) → List ℕ → List ℕ → Option ℕ
 named_number name number text = let n = digits_value 10 number in if nat_lt n (2 ^ 64) && bytes_eq (name n) text then Some n else None
 
--- the number of a manifest's name, and of a name that ends so
+-- the number of a manifest's name
 abbrev pub manifest_number : List ℕ → Option ℕ
 manifest_number text = named_number manifest_name (drop 9 text) text
 
-abbrev pub number_before : ℕ → (ℕ → List ℕ) → List ℕ → Option ℕ
-number_before ending_len name text = named_number name (take (length text - ending_len) text) text
+-- the number of a name that an ending of so many bytes follows
+abbrev pub number_with_ending : ℕ → (ℕ → List ℕ) → List ℕ → Option ℕ
+number_with_ending ending_len name text = named_number name (take (length text - ending_len) text) text
 
 abbrev pub lost_prefix : List ℕ
 lost_prefix = codes "lost/"
@@ -56,8 +57,8 @@ lost_prefix = codes "lost/"
 abbrev pub numbered_name : List ℕ → Option FileName
 numbered_name text =
     option_or (option_map Manifest (manifest_number text))
-    (option_or (option_map Log (number_before 4 log_name text))
-    (option_or (option_map Table (number_before 4 table_name text)) (option_map Temp (number_before 6 temp_name text))))
+    (option_or (option_map Log (number_with_ending 4 log_name text))
+    (option_or (option_map Table (number_with_ending 4 table_name text)) (option_map Temp (number_with_ending 6 temp_name text))))
 
 -- The name that the text is.
 unfoldable pub name_of : List ℕ → FileName

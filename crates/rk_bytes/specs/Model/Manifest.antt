@@ -59,8 +59,9 @@ falls n (edit ∷ edits) = option_eq nat_eq (stated group_in edit) (Some n) && f
 abbrev pub with_unit : ManifestUnit → Units → Units
 with_unit unit rest = record { units = unit ∷ rest.units; fault = rest.fault }
 
--- The units of edits that this fault follows. The first unit has this number, and the first `inside`
--- edits belong to the unit before. A group that the edits' end cuts off is no unit.
+-- The units of edits that this fault follows. The first unit has this number. So many edits at the front
+-- as `inside` counts are members of the group before, and are passed over. A group that the edits' end
+-- cuts off is no unit.
 unfoldable pub units_from : (ℕ → Option ManifestFault) → ℕ → ℕ → List (List Field) → Units
 units_from fault number inside [] = record { units = []; fault = fault number }
 units_from fault number (suc inside) (edit ∷ edits) = units_from fault number inside edits
@@ -125,16 +126,17 @@ add_family id name families =
 abbrev pub drop_family : ℕ → List FamilyState → List FamilyState
 drop_family id families = filter (λ live. not (has_id id live)) families
 
--- the families after the edit: one more, one fewer, or the same
+-- The families after the edit. An add of a live id or name is refused, and any other add adds. Without an
+-- add the id has to be live. Then a drop removes the family with its files.
 abbrev pub family_step : List Field → Version → Result Version ApplyFault
-family_step edit version = let id = edit_family edit in elim (stated family_add_in edit) [
-  | Some name ↦
-      if list_any (has_id id) version.families || list_any (has_name name) version.families then Err (FamilyExists id)
-      else Ok (with_families (add_family id name) version)
-  | None ↦
-      if not (list_any (has_id id) version.families) then Err (UnknownFamily id)
-      else Ok (if list_any drops_family edit then with_families (drop_family id) version else version)
-]
+family_step edit version = let id = edit_family edit in do
+  known ← elim (stated family_add_in edit) [
+    | Some name ↦
+        if list_any (has_id id) version.families || list_any (has_name name) version.families then Err (FamilyExists id)
+        else Ok (with_families (add_family id name) version)
+    | None ↦ if list_any (has_id id) version.families then Ok version else Err (UnknownFamily id)
+  ]
+  Ok (if list_any drops_family edit then with_families (drop_family id) known else known)
 
 abbrev pub has_number : ℕ → FileMeta → Bool
 has_number number file = file.number == number

@@ -104,12 +104,13 @@ pub record Batch : Type 0 where
   pub sequence : ℕ
   pub parts : List Part
 
--- The batch that the bytes are, or the first fault.
+-- The batch that the bytes are, or the first fault. It is `SequenceTop` where the batch's sequence number is
+-- above the greatest one, or its last change's is.
 unfoldable pub batch_of : List ℕ → Result Batch BatchFault
 batch_of bytes = if nat_lt (length bytes) 12 then Err TooSmall else (do
   parts ← parts_after_header bytes
   if not (stated_count bytes == change_count parts) then Err (WrongCount (stated_count bytes) (change_count parts))
-      else (if nat_lt top_sequence (batch_sequence bytes + (change_count parts - 1)) then Err SequenceTop
+      else (if nat_lt top_sequence (batch_sequence bytes) || nat_lt (top_sequence + 1) (batch_sequence bytes + change_count parts) then Err SequenceTop
       else Ok (record { sequence = batch_sequence bytes; parts = parts })))
 
 -- puts of `a`, `b` and `c` from sequence number 5 on, with the count that is stated

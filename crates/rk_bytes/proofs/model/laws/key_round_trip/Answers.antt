@@ -7,7 +7,7 @@ use Rattle.rk_bytes.specs.declared.model.key.Kind.TheVariants.{Deletion, Value, 
 use Rattle.rk_bytes.specs.declared.model.key.KeyFault.{KeyFault}
 use Rattle.rk_bytes.specs.declared.model.key.KeyFault.TheVariants.{Short}
 use Rattle.rk_bytes.specs.Model.Numbers.{little_endian, fixed_of}
-use Rattle.rk_bytes.specs.Model.InternalKey.{kind_number, kind_of, packed_of, user_key, packed, internal_key, KeyParts, without_kind, key_parts}
+use Rattle.rk_bytes.specs.Model.InternalKey.{kind_number, kind_of, packed_of, user_key, packed, internal_key, KeyParts, kind_fault, key_parts}
 use Rattle.rk_bytes.proofs.model.laws.key_round_trip.Goals as goal
 
 -- 256 to the power of len
@@ -44,7 +44,7 @@ without_end user end eight = omega (arith, length-append user end)
 -- key_parts, by what it reads of a key: whether it is short, its user key, its sequence number, its kind and that kind's number
 abbrev answer : Bool → List ℕ → ℕ → Option Kind → ℕ → Result KeyParts KeyFault
 answer is_short user sequence found number =
-    cond is_short (Err Short) (ok_or (option_map (λ kind. record { user = user; sequence = sequence; kind = kind }) found) (without_kind number))
+    cond is_short (Err Short) (ok_or (option_map (λ kind. record { user = user; sequence = sequence; kind = kind }) found) (kind_fault number))
 
 with_parts : (key user : List ℕ) (sequence : ℕ) (kind : Kind) → 8 ≤ length key → user_key key ≡ user → packed key ≡ packed_of sequence kind
     → key_parts key ≡ Ok (record { user = user; sequence = sequence; kind = kind })
