@@ -1,6 +1,6 @@
 -- The names of a database's files, and the text of CURRENT (file/filename.cc). Names below `lost/`, and that
 -- a name counts only as it is printed here, are this project's own rules.
-use Rattle.std.specs.Prelude.{◌≡◌, ℕ, zero, suc, ◌+◌, ◌-◌, ◌^◌, ◌<◌, ◌&&◌, List, [], ◌∷◌, ◌++◌, length, take, drop, replicate, position, nat_eq, nat_lt, ◌==◌, if◌then◌else◌, Option, Some, None, option_map, unwrap_or, ok_or, Result, Ok, Err, Contains, bytes_eq, codes, refl}
+use Rattle.std.specs.Prelude.{◌≡◌, ℕ, zero, suc, ◌+◌, ◌-◌, ◌^◌, ◌<◌, ◌&&◌, List, [], ◌∷◌, ◌++◌, length, map, take, drop, replicate, position, nat_eq, nat_lt, ◌==◌, if◌then◌else◌, Option, Some, None, option_map, unwrap_or, ok_or, Result, Ok, Err, Contains, bytes_eq, codes, refl}
 use Rattle.std.specs.List.{starts_with}
 use Rattle.std.specs.Option.{option_or}
 use Rattle.std.specs.Fmt.{digits, decimal}
@@ -99,13 +99,13 @@ of_a_table : name_of (codes "000012.sst") ≡ Table 12
 unfolding name_of digits
 of_a_table = refl
 
-of_too_few_digits : name_of (codes "12.sst") ≡ Other
+of_other_digits : map name_of (codes "12.sst" ∷ codes "0000012.sst" ∷ []) ≡ Other ∷ Other ∷ []
 unfolding name_of digits
-of_too_few_digits = refl
+of_other_digits = refl
 
-of_too_many_digits : name_of (codes "0000012.sst") ≡ Other
+of_the_greatest_number : map name_of (codes "18446744073709551615.log" ∷ codes "18446744073709551616.log" ∷ []) ≡ Log (2 ^ 64 - 1) ∷ Other ∷ []
 unfolding name_of digits
-of_too_many_digits = refl
+of_the_greatest_number = refl
 
 of_a_short_manifest : name_of (codes "MANIFEST-12") ≡ Other
 unfolding name_of digits

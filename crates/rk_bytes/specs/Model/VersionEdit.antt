@@ -226,11 +226,12 @@ of_an_added_file : edit_fields (added_file (1 ∷ []))
 unfolding edit_fields in_turn after_customs added_file put_a
 of_an_added_file = refl
 
-of_a_path : edit_fields (added_file (65 ∷ 1 ∷ 2 ∷ 1 ∷ [])) ≡ Err (UnsupportedTag 65 0)
+-- The place is that of the file's tag, here after a log number.
+of_a_path : edit_fields (2 ∷ 7 ∷ added_file (65 ∷ 1 ∷ 2 ∷ 1 ∷ [])) ≡ Err (UnsupportedTag 65 2)
 unfolding edit_fields in_turn after_customs added_file put_a
 of_a_path = refl
 
-of_a_custom_field_to_know : edit_fields (added_file (5 ∷ 0 ∷ 66 ∷ [])) ≡ Err (UnknownTag 66 0)
+of_a_custom_field_to_know : edit_fields (2 ∷ 7 ∷ added_file (5 ∷ 0 ∷ 66 ∷ [])) ≡ Err (UnknownTag 66 2)
 unfolding edit_fields in_turn after_customs added_file put_a
 of_a_custom_field_to_know = refl
 

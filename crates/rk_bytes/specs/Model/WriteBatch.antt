@@ -152,6 +152,23 @@ of_one_change_too_many : batch_of (at_top 2 ((0 ∷ 1 ∷ codes "a") ++ (0 ∷ 1
 unfolding batch_of in_turn at_top
 of_one_change_too_many = refl
 
+-- a batch without a change, one above the greatest sequence number, with the count that is stated
+above_top : ℕ → List ℕ
+above_top count = replicate 7 0 ++ 1 ∷ count ∷ 0 ∷ 0 ∷ 0 ∷ []
+
+of_a_sequence_number_above_the_top : batch_of (above_top 0) ≡ Err SequenceTop
+unfolding batch_of in_turn above_top
+of_a_sequence_number_above_the_top = refl
+
+wrong_count_before_sequence_top : batch_of (above_top 1) ≡ Err (WrongCount 1 0)
+unfolding batch_of in_turn above_top
+wrong_count_before_sequence_top = refl
+
+of_a_deletion_in_a_family : batch_of (1 ∷ 0 ∷ 0 ∷ 0 ∷ 0 ∷ 0 ∷ 0 ∷ 0 ∷ 1 ∷ 0 ∷ 0 ∷ 0 ∷ 4 ∷ 7 ∷ 1 ∷ codes "a")
+    ≡ Ok (record { sequence = 1; parts = change 12 (record { family = 7; key = codes "a"; sequence = 1; kind = Deletion; value = [] }) ∷ [] })
+unfolding batch_of in_turn
+of_a_deletion_in_a_family = refl
+
 -- The count is wrong as well, but is looked at later.
 of_a_cut_record : batch_of (at_top 0 (0xD ∷ 1 ∷ 1 ∷ 0x61 ∷ 2 ∷ codes "x")) ≡ Err (BadRecord 13)
 unfolding batch_of in_turn at_top
