@@ -47,7 +47,7 @@ named_number name number text = let n = digits_value 10 number in if nat_lt n (2
 abbrev pub manifest_number : List ℕ → Option ℕ
 manifest_number text = named_number manifest_name (drop 9 text) text
 
--- the number of a name that an ending of so many bytes follows
+-- the number of a name that is a number and an ending of so many bytes
 abbrev pub number_with_ending : ℕ → (ℕ → List ℕ) → List ℕ → Option ℕ
 number_with_ending ending_len name text = named_number name (take (length text - ending_len) text) text
 
