@@ -52,12 +52,12 @@ little_endian-only_equal (x ∷ xs) (y ∷ ys) same bytes bytes' e =
     let rest = little_endian-only_equal xs ys (omega arith) (λ k d below. bytes (suc k) d (omega arith)) (λ k d below. bytes' (suc k) d (omega arith)) tail in
     λ i. head i ∷ rest i
 
-All-drop : (k : ℕ) (xs : List ℕ) → All (λ x. x < 256) xs → All (λ x. x < 256) (drop k xs)
+pub All-drop : (k : ℕ) (xs : List ℕ) → All (λ x. x < 256) xs → All (λ x. x < 256) (drop k xs)
 All-drop k xs bytes i d below =
     let within : k + i < length xs = omega (arith, length-drop k xs) in
     rw (get_or-drop k xs i d) (bytes (k + i) d within)
 
-length-end : (xs : List ℕ) → 8 ≤ length xs → length (drop (length xs - 8) xs) ≡ 8
+pub length-end : (xs : List ℕ) → 8 ≤ length xs → length (drop (length xs - 8) xs) ≡ 8
 length-end xs long = omega (arith, length-drop (length xs - 8) xs)
 
 pub key_cmp-only_equal : (a b : List ℕ) → 8 ≤ length a → 8 ≤ length b → All (λ x. x < 256) a → All (λ x. x < 256) b → key_cmp a b ≡ Equal → a ≡ b

@@ -96,7 +96,8 @@ fn is_unread(kind: u8) -> bool
     matches!(kind, 2..=8 | 11)
 }
 
-/// Compression (9), the sizes of user timestamps (10), and what a reader may not pass over.
+/// Compression (9), the sizes of user timestamps (10), and the types with the top bit (128 to 255), which
+/// this project refuses.
 fn is_unsupported(kind: u8) -> bool
     ensures { result ≡ is_unsupported kind }
 {

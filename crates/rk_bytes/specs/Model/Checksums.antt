@@ -1,6 +1,6 @@
 -- The checksums of log records and of blocks: CRC32C and its mask, as util/crc32c.h states them, and
 -- XXH32 and XXH64 with seed 0, as the xxHash specification states them.
-use Rattle.std.specs.Prelude.{◌≡◌, ℕ, zero, suc, ◌+◌, ◌-◌, ◌*◌, ◌/◌, ◌%◌, ◌^◌, List, [], ◌∷◌, ◌++◌, length, take, drop, fold, bit_xor, if◌then◌else◌, nat_le, ◌==◌, replicate, codes, refl}
+use Rattle.std.specs.Prelude.{◌≡◌, ℕ, zero, suc, ◌+◌, ◌-◌, ◌*◌, ◌/◌, ◌%◌, ◌^◌, List, [], ◌∷◌, ◌++◌, length, take, drop, map, fold, bit_xor, if◌then◌else◌, nat_le, ◌==◌, replicate, codes, refl}
 use Rattle.std.specs.Int.{w32, w64, rotate_left}
 use Rattle.rk_bytes.specs.declared.model.table.SumKind.{SumKind}
 use Rattle.rk_bytes.specs.declared.model.table.SumKind.TheVariants.{NoSum, Crc32c, Xxh32, Xxh64}
@@ -172,10 +172,6 @@ check_value = refl
 masked_check_value : mask 0xE3069283 ≡ 0xC78AB0E5
 masked_check_value = refl
 
-of_nothing : crc32c [] ≡ 0
-unfolding crc32c crc_bytes crc_bits crc_bit
-of_nothing = refl
-
 of_zeros : crc32c (replicate 32 0) ≡ 0x8A9136AA
 unfolding crc32c crc_bytes crc_bits crc_bit
 of_zeros = refl
@@ -195,6 +191,11 @@ xxh32_of_a_stripe_and_more : xxh32 (codes "0123456789abcdefghijklmnopqrstuvwxyzA
 unfolding xxh32 xxh32_mixed xxh32_with_rest xxh32_of_stripes xxh32_sum pieces
 xxh32_of_a_stripe_and_more = refl
 
+-- one byte less than a stripe, and a whole one
+xxh32_around_a_stripe : map xxh32 (replicate 15 0xFF ∷ replicate 16 0xFF ∷ []) ≡ 0x20095B45 ∷ 0xD85160AA ∷ []
+unfolding xxh32 xxh32_mixed xxh32_with_rest xxh32_of_stripes xxh32_sum pieces
+xxh32_around_a_stripe = refl
+
 xxh64_of_nothing : xxh64 [] ≡ 0xEF46DB3751D8E999
 unfolding xxh64 xxh64_mixed xxh64_with_rest pieces
 xxh64_of_nothing = refl
@@ -202,3 +203,11 @@ xxh64_of_nothing = refl
 xxh64_of_a_stripe_and_more : xxh64 (codes "0123456789abcdefghijklmnopqrstuvwxyzABCDEFGHIJK") ≡ 0xE7F6F7FE6DB7FF27
 unfolding xxh64 xxh64_mixed xxh64_with_rest xxh64_of_stripes xxh64_sum pieces
 xxh64_of_a_stripe_and_more = refl
+
+xxh64_around_a_stripe : map xxh64 (replicate 31 0xFF ∷ replicate 32 0xFF ∷ []) ≡ 0x5FBFF749E15D5844 ∷ 0xFF10223616C08787 ∷ []
+unfolding xxh64 xxh64_mixed xxh64_with_rest xxh64_of_stripes xxh64_sum pieces
+xxh64_around_a_stripe = refl
+
+of_each_kind : map (λ kind. block_sum kind (codes "123456789") 0) (NoSum ∷ Crc32c ∷ Xxh32 ∷ Xxh64 ∷ []) ≡ 0 ∷ 0xDD227149 ∷ 0x08FAF2DA ∷ 0x1B63A378 ∷ []
+unfolding crc32c crc_bytes crc_bits crc_bit xxh32 xxh32_mixed xxh32_with_rest xxh64 xxh64_mixed xxh64_with_rest pieces
+of_each_kind = refl

@@ -1,4 +1,4 @@
--- What is told of a disk, and of the counts of its faults (this project's own words).
+-- What is told of a disk, and of the counts of its faults. All of it is this project's own.
 use Rattle.std.specs.Prelude.{◌≡◌, ℕ, ◌+◌, ◌-◌, ◌^◌, ◌≤◌, min, Bool, true, false, List, take, drop}
 use Rattle.std.specs.Ordering.{nat_cmp}
 use Rattle.std.specs.FinMap.{FinMap}

@@ -1,6 +1,6 @@
 -- The names of a database's files, and the text of CURRENT (file/filename.cc). Names below `lost/`, and that
 -- a name counts only as it is printed here, are this project's own rules.
-use Rattle.std.specs.Prelude.{◌≡◌, ℕ, zero, suc, ◌+◌, ◌-◌, ◌^◌, ◌<◌, ◌&&◌, List, [], ◌∷◌, ◌++◌, length, take, drop, replicate, position, nat_eq, nat_lt, ◌==◌, if◌then◌else◌, Option, Some, None, option_map, unwrap_or, ok_or, Result, Ok, Err, Contains, bytes_eq, codes, refl}
+use Rattle.std.specs.Prelude.{◌≡◌, ℕ, zero, suc, ◌+◌, ◌-◌, ◌^◌, ◌<◌, ◌&&◌, List, [], ◌∷◌, ◌++◌, length, map, take, drop, replicate, position, nat_eq, nat_lt, ◌==◌, if◌then◌else◌, Option, Some, None, option_map, unwrap_or, ok_or, Result, Ok, Err, Contains, bytes_eq, codes, refl}
 use Rattle.std.specs.List.{starts_with}
 use Rattle.std.specs.Option.{option_or}
 use Rattle.std.specs.Fmt.{digits, decimal}
@@ -43,12 +43,13 @@ printed_name _ = []
 abbrev pub named_number : (ℕ → List ℕ) → List ℕ → List ℕ → Option ℕ
 named_number name number text = let n = digits_value 10 number in if nat_lt n (2 ^ 64) && bytes_eq (name n) text then Some n else None
 
--- the number of a manifest's name, and of a name that ends so
+-- the number of a manifest's name
 abbrev pub manifest_number : List ℕ → Option ℕ
 manifest_number text = named_number manifest_name (drop 9 text) text
 
-abbrev pub number_before : ℕ → (ℕ → List ℕ) → List ℕ → Option ℕ
-number_before ending_len name text = named_number name (take (length text - ending_len) text) text
+-- the number of a name that is a number and an ending of so many bytes
+abbrev pub number_with_ending : ℕ → (ℕ → List ℕ) → List ℕ → Option ℕ
+number_with_ending ending_len name text = named_number name (take (length text - ending_len) text) text
 
 abbrev pub lost_prefix : List ℕ
 lost_prefix = codes "lost/"
@@ -56,8 +57,8 @@ lost_prefix = codes "lost/"
 abbrev pub numbered_name : List ℕ → Option FileName
 numbered_name text =
     option_or (option_map Manifest (manifest_number text))
-    (option_or (option_map Log (number_before 4 log_name text))
-    (option_or (option_map Table (number_before 4 table_name text)) (option_map Temp (number_before 6 temp_name text))))
+    (option_or (option_map Log (number_with_ending 4 log_name text))
+    (option_or (option_map Table (number_with_ending 4 table_name text)) (option_map Temp (number_with_ending 6 temp_name text))))
 
 -- The name that the text is.
 unfoldable pub name_of : List ℕ → FileName
@@ -98,13 +99,13 @@ of_a_table : name_of (codes "000012.sst") ≡ Table 12
 unfolding name_of digits
 of_a_table = refl
 
-of_too_few_digits : name_of (codes "12.sst") ≡ Other
+of_other_digits : map name_of (codes "12.sst" ∷ codes "0000012.sst" ∷ []) ≡ Other ∷ Other ∷ []
 unfolding name_of digits
-of_too_few_digits = refl
+of_other_digits = refl
 
-of_too_many_digits : name_of (codes "0000012.sst") ≡ Other
+of_the_greatest_number : map name_of (codes "18446744073709551615.log" ∷ codes "18446744073709551616.log" ∷ []) ≡ Log (2 ^ 64 - 1) ∷ Other ∷ []
 unfolding name_of digits
-of_too_many_digits = refl
+of_the_greatest_number = refl
 
 of_a_short_manifest : name_of (codes "MANIFEST-12") ≡ Other
 unfolding name_of digits

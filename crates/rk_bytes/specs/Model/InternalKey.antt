@@ -54,15 +54,15 @@ pub record KeyParts : Type 0 where
   pub sequence : ℕ
   pub kind : Kind
 
--- 16 to 31 are the numbers of kinds that aren't supported
-abbrev pub without_kind : ℕ → KeyFault
-without_kind number = if nat_le 16 number && nat_le number 31 then UnsupportedKind number else UnknownKind number
+-- the fault of a number that no kind has: 16 to 31 are those of kinds that aren't supported
+abbrev pub kind_fault : ℕ → KeyFault
+kind_fault number = if nat_le 16 number && nat_le number 31 then UnsupportedKind number else UnknownKind number
 
 abbrev pub key_parts : List ℕ → Result KeyParts KeyFault
 key_parts key =
     let number = packed key % 256 in
     if nat_lt (length key) 8 then Err Short
-    else ok_or (option_map (λ kind. record { user = user_key key; sequence = packed key / 256; kind = kind }) (kind_of number)) (without_kind number)
+    else ok_or (option_map (λ kind. record { user = user_key key; sequence = packed key / 256; kind = kind }) (kind_of number)) (kind_fault number)
 
 a_put : internal_key (codes "a") 1 Value ≡ 0x61 ∷ 0x01 ∷ 0x01 ∷ 0 ∷ 0 ∷ 0 ∷ 0 ∷ 0 ∷ 0 ∷ []
 unfolding internal_key

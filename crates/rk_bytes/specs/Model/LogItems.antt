@@ -1,5 +1,5 @@
--- The records of a log, and what is left out between them: the marks of LogMarks, parted
--- (db/log_reader.cc). The reasons and places of gaps and ends are this project's own rule.
+-- The records of a log, and what is left out between them: the marks of LogMarks, parted.
+-- db/log_reader.cc joins fragments so; the grouping of what is left out is this project's own rule.
 use Rattle.std.specs.Prelude.{◌≡◌, ℕ, Bool, true, false, List, [], ◌∷◌, ◌++◌, Option, Some, None, refl}
 use Rattle.rk_bytes.specs.declared.model.log.GapWhy.{GapWhy}
 use Rattle.rk_bytes.specs.declared.model.log.GapWhy.TheVariants.{Checksum, MissingStart, MissingEnd}

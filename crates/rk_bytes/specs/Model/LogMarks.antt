@@ -55,7 +55,8 @@ has_right_sum bytes = stored_sum bytes == mask (crc32c (type_of bytes ∷ payloa
 abbrev pub is_unread : ℕ → Bool
 is_unread kind = nat_le 2 kind && nat_le kind 8 || kind == 11
 
--- compression (9), the sizes of user timestamps (10), and the types that a reader may not pass over
+-- compression (9), the sizes of user timestamps (10), and the types with the top bit (128 to 255), which
+-- this project refuses
 abbrev pub is_unsupported : ℕ → Bool
 is_unsupported kind = kind == 9 || kind == 10 || nat_le 128 kind
 

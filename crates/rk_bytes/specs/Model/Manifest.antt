@@ -22,7 +22,7 @@ use Rattle.rk_bytes.specs.declared.model.manifest.Version.{Version}
 use Rattle.rk_bytes.specs.Model.Numbers.{◌>>=◌, in_turn}
 use Rattle.rk_bytes.specs.Model.InternalKey.{key_cmp, bytewise_name, internal_key}
 use Rattle.rk_bytes.specs.Model.LogItems.{Item, rec, gap, end, log_items}
-use Rattle.rk_bytes.specs.Model.VersionEdit.{Field, NewFile, comparator, log_number, next_file, last_sequence, add_file, group, comparator_in, log_number_in, next_file_in, last_sequence_in, deleted_in, added_in, least_log_in, family_in, family_add_in, drops_family, greatest_family_in, group_in, edit_fields}
+use Rattle.rk_bytes.specs.Model.VersionEdit.{Field, NewFile, comparator, log_number, next_file, last_sequence, add_file, delete_file, family, family_add, family_drop, group, comparator_in, log_number_in, next_file_in, last_sequence_in, deleted_in, added_in, least_log_in, family_in, family_add_in, drops_family, greatest_family_in, group_in, edit_fields}
 
 -- A unit is an edit by itself, or the edits of a group.
 pub record ManifestUnit : Type 0 where
@@ -59,8 +59,9 @@ falls n (edit ∷ edits) = option_eq nat_eq (stated group_in edit) (Some n) && f
 abbrev pub with_unit : ManifestUnit → Units → Units
 with_unit unit rest = record { units = unit ∷ rest.units; fault = rest.fault }
 
--- The units of edits that this fault follows. The first unit has this number, and the first `inside`
--- edits belong to the unit before. A group that the edits' end cuts off is no unit.
+-- The units of edits that this fault follows. The first unit has this number. So many edits at the front
+-- as `inside` counts are members of the group before, and are passed over. A group that the edits' end
+-- cuts off is no unit.
 unfoldable pub units_from : (ℕ → Option ManifestFault) → ℕ → ℕ → List (List Field) → Units
 units_from fault number inside [] = record { units = []; fault = fault number }
 units_from fault number (suc inside) (edit ∷ edits) = units_from fault number inside edits
@@ -125,16 +126,17 @@ add_family id name families =
 abbrev pub drop_family : ℕ → List FamilyState → List FamilyState
 drop_family id families = filter (λ live. not (has_id id live)) families
 
--- the families after the edit: one more, one fewer, or the same
+-- The families after the edit. An add of a live id or name is refused, and any other add adds. Without an
+-- add the id has to be live. Then a drop removes the family with its files.
 abbrev pub family_step : List Field → Version → Result Version ApplyFault
-family_step edit version = let id = edit_family edit in elim (stated family_add_in edit) [
-  | Some name ↦
-      if list_any (has_id id) version.families || list_any (has_name name) version.families then Err (FamilyExists id)
-      else Ok (with_families (add_family id name) version)
-  | None ↦
-      if not (list_any (has_id id) version.families) then Err (UnknownFamily id)
-      else Ok (if list_any drops_family edit then with_families (drop_family id) version else version)
-]
+family_step edit version = let id = edit_family edit in do
+  known ← elim (stated family_add_in edit) [
+    | Some name ↦
+        if list_any (has_id id) version.families || list_any (has_name name) version.families then Err (FamilyExists id)
+        else Ok (with_families (add_family id name) version)
+    | None ↦ if list_any (has_id id) version.families then Ok version else Err (UnknownFamily id)
+  ]
+  Ok (if list_any drops_family edit then with_families (drop_family id) known else known)
 
 abbrev pub has_number : ℕ → FileMeta → Bool
 has_number number file = file.number == number
@@ -264,15 +266,12 @@ first_fields = comparator (codes "leveldb.BytewiseComparator") ∷ log_number 3 
 left : ℕ → List ℕ
 left n = 0xAC ∷ 2 ∷ n ∷ []
 
-of_an_unfinished_group : units_of_items (logged (first_edit ∷ left 2 ∷ left 1 ∷ []))
+-- A group that is cut off is no unit. One with an edit that states the number of the edit before is bad.
+of_broken_groups : map (λ more. units_of_items (logged (first_edit ∷ left 2 ∷ left 1 ∷ more))) ([] ∷ (left 1 ∷ []) ∷ [])
     ≡ record { units = record { edits = first_fields ∷ []; is_group = false } ∷ []; fault = None }
+    ∷ record { units = record { edits = first_fields ∷ []; is_group = false } ∷ []; fault = Some (BadGroup 2) } ∷ []
 unfolding logged first_edit first_fields left units_from edits_of fault_after edit_fields in_turn
-of_an_unfinished_group = refl
-
-of_a_group_that_does_not_fall : units_of_items (logged (first_edit ∷ left 2 ∷ left 1 ∷ left 1 ∷ []))
-    ≡ record { units = record { edits = first_fields ∷ []; is_group = false } ∷ []; fault = Some (BadGroup 2) }
-unfolding logged first_edit first_fields left units_from edits_of fault_after edit_fields in_turn
-of_a_group_that_does_not_fall = refl
+of_broken_groups = refl
 
 of_a_whole_group : units_of_items (logged (left 1 ∷ left 0 ∷ (2 ∷ 9 ∷ []) ∷ []))
     ≡ record {
@@ -307,28 +306,56 @@ of_no_edit : last_version (units_of_items (logged [])) ≡ Err (NoFields LogNumb
 unfolding logged units_from edits_of fault_after version_after
 of_no_edit = refl
 
--- A refused unit comes first, here one that speaks of family 1.
-of_an_unknown_family : last_version (units_of_items (logged ((0xC8 ∷ 1 ∷ 1 ∷ []) ∷ (0x66 ∷ []) ∷ []))) ≡ Err (BadEdit 1 (Apply (UnknownFamily 1)))
-unfolding logged units_from edits_of fault_after edit_fields in_turn each edit_step unit_step version_after
-of_an_unknown_family = refl
+-- A refused unit comes first, here one that deletes file 9 at level 1. The edit after it doesn't read.
+of_an_absent_file : last_version (units_of_items (logged (first_edit ∷ (6 ∷ 1 ∷ 9 ∷ []) ∷ (0x66 ∷ []) ∷ []))) ≡ Err (BadEdit 2 (Apply (DeleteAbsent 9)))
+unfolding logged first_edit units_from edits_of fault_after edit_fields in_turn each edit_step overlap unit_step version_after
+of_an_absent_file = refl
+
+-- The comparator comes first. A drop is looked at after an add too.
+of_families : map (λ edit. edit_step edit first_version) (
+    (comparator (codes "x") ∷ family 1 ∷ []) ∷ (family_add (codes "x") ∷ []) ∷ (family 1 ∷ family_add (codes "default") ∷ []) ∷ (family 1 ∷ [])
+    ∷ (family 1 ∷ family_add (codes "x") ∷ family_drop ∷ []) ∷ [])
+    ≡ Err UnsupportedComparator ∷ Err (FamilyExists 0) ∷ Err (FamilyExists 1) ∷ Err (UnknownFamily 1) ∷ Ok first_version ∷ []
+unfolding each edit_step
+of_families = refl
+
+-- an added file whose bounds are keys of these users
+added : ℕ → ℕ → List ℕ → List ℕ → Field
+added level number least greatest =
+    add_file (record { level = level; number = number; size = 9; smallest = internal_key least 5 Value; largest = internal_key greatest 5 Value; seqs = None })
+
+of_a_number_of_another_family : each edit_step ((added 0 7 (codes "a") (codes "b") ∷ []) ∷ (family 1 ∷ family_add (codes "x") ∷ added 3 7 (codes "a") (codes "b") ∷ []) ∷ []) first_version
+    ≡ Err (AddPresent 7)
+unfolding each edit_step added internal_key
+of_a_number_of_another_family = refl
+
+-- The deleted files go first, wherever they stand in the edit.
+of_a_moved_file : each edit_step ((added 2 7 (codes "a") (codes "b") ∷ []) ∷ (added 3 7 (codes "a") (codes "b") ∷ delete_file 2 7 ∷ []) ∷ []) first_version
+    ≡ each edit_step ((added 3 7 (codes "a") (codes "b") ∷ []) ∷ []) first_version
+unfolding each edit_step added internal_key
+of_a_moved_file = refl
+
+-- Families 1 and 2 have files that overlap, family 1 at two levels.
+of_the_lowest_overlap : unit_step (record {
+  edits =
+      (family 2 ∷ family_add (codes "z") ∷ added 1 1 (codes "a") (codes "c") ∷ added 1 2 (codes "b") (codes "d") ∷ [])
+      ∷ (family 1 ∷ family_add (codes "y") ∷ added 5 3 (codes "a") (codes "c") ∷ added 5 4 (codes "b") (codes "d") ∷ added 3 5 (codes "a") (codes "c") ∷ added 3 6 (codes "c") (codes "d") ∷ []) ∷ [];
+  is_group = true;
+}) first_version ≡ Err (Overlap 1 3)
+unfolding each edit_step overlap unit_step added internal_key
+of_the_lowest_overlap = refl
 
 -- the unit of one edit that adds two files of one level, the second with this least key
 two_files : ℕ → List ℕ → ManifestUnit
 two_files level smallest = record {
-  edits = (add_file (record { level = level; number = 7; size = 9; smallest = internal_key (codes "c") 5 Value; largest = internal_key (codes "d") 5 Value; seqs = None })
+  edits = (added level 7 (codes "c") (codes "d")
       ∷ add_file (record { level = level; number = 6; size = 9; smallest = smallest; largest = internal_key (codes "e") 5 Value; seqs = None }) ∷ []) ∷ [];
   is_group = false;
 }
 
-of_files_that_meet : unit_step (two_files 2 (internal_key (codes "d") 5 Value)) first_version ≡ Err (Overlap 0 2)
-unfolding two_files internal_key each edit_step overlap unit_step
-of_files_that_meet = refl
-
--- an older record of the same user key lies beyond
-of_files_apart : is_ok (unit_step (two_files 2 (internal_key (codes "d") 4 Value)) first_version) ≡ true
-unfolding two_files internal_key each edit_step overlap unit_step
-of_files_apart = refl
-
-of_files_at_level_0 : is_ok (unit_step (two_files 0 (internal_key (codes "d") 5 Value)) first_version) ≡ true
-unfolding two_files internal_key each edit_step overlap unit_step
-of_files_at_level_0 = refl
+-- Files that meet at a key aren't apart. An older record of the same user key lies beyond. At level 0 any two may stand.
+of_two_files : map (λ unit. is_ok (unit_step unit first_version)) (
+    two_files 2 (internal_key (codes "d") 5 Value) ∷ two_files 2 (internal_key (codes "d") 4 Value) ∷ two_files 0 (internal_key (codes "d") 5 Value) ∷ [])
+    ≡ false ∷ true ∷ true ∷ []
+unfolding two_files added internal_key each edit_step overlap unit_step
+of_two_files = refl

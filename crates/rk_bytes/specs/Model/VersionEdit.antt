@@ -87,7 +87,8 @@ abbrev pub group_in : Field → Option ℕ
 group_in (group left) = Some left
 group_in _ = None
 
--- Values with bounds of their own: a level is at most 255, and an internal key has 8 bytes at least.
+-- Values with bounds of their own: a level is at most 255, an internal key has 8 bytes at least, and a last
+-- sequence number is at most the greatest one. Which fault they give isn't looked at: the field is bad.
 abbrev pub level_at : List ℕ → Read ℕ
 level_at bytes = do
   level ← varint32_at bytes
@@ -178,14 +179,14 @@ abbrev pub reader_of : ℕ → Option (List ℕ → Read Field)
 reader_of tag = option_map (λ row. row.1) (find (λ row. row.0 == tag) value_readers)
 
 -- an older form of an added file (102), blob files (400, 401), and fields for what isn't supported (8194 to 8197)
-abbrev pub is_refused_tag : ℕ → Bool
-is_refused_tag tag = tag == 102 || tag == 400 || tag == 401 || nat_le 8194 tag && nat_le tag 8197
+abbrev pub is_unsupported_tag : ℕ → Bool
+is_unsupported_tag tag = tag == 102 || tag == 400 || tag == 401 || nat_le 8194 tag && nat_le tag 8197
 
 -- the field with this tag, after the tag
 abbrev pub field_of_tag : ℕ → ℕ → List ℕ → Result (Field × List ℕ) EditFault
 field_of_tag place tag bytes =
     if tag == 103 then custom_file_at place bytes
-    else (if is_refused_tag tag then Err (UnsupportedTag tag place)
+    else (if is_unsupported_tag tag then Err (UnsupportedTag tag place)
     else (if tag / 8192 % 2 == 1 then reads_or (BadField tag place) (reads (ignored tag) prefixed_at bytes)
     else elim (reader_of tag) [
       | Some value_at ↦ reads_or (BadField tag place) (value_at bytes)
@@ -225,11 +226,12 @@ of_an_added_file : edit_fields (added_file (1 ∷ []))
 unfolding edit_fields in_turn after_customs added_file put_a
 of_an_added_file = refl
 
-of_a_path : edit_fields (added_file (65 ∷ 1 ∷ 2 ∷ 1 ∷ [])) ≡ Err (UnsupportedTag 65 0)
+-- The place is that of the file's tag, here after a log number.
+of_a_path : edit_fields (2 ∷ 7 ∷ added_file (65 ∷ 1 ∷ 2 ∷ 1 ∷ [])) ≡ Err (UnsupportedTag 65 2)
 unfolding edit_fields in_turn after_customs added_file put_a
 of_a_path = refl
 
-of_a_custom_field_to_know : edit_fields (added_file (5 ∷ 0 ∷ 66 ∷ [])) ≡ Err (UnknownTag 66 0)
+of_a_custom_field_to_know : edit_fields (2 ∷ 7 ∷ added_file (5 ∷ 0 ∷ 66 ∷ [])) ≡ Err (UnknownTag 66 2)
 unfolding edit_fields in_turn after_customs added_file put_a
 of_a_custom_field_to_know = refl
 

@@ -104,12 +104,13 @@ pub record Batch : Type 0 where
   pub sequence : ℕ
   pub parts : List Part
 
--- The batch that the bytes are, or the first fault.
+-- The batch that the bytes are, or the first fault. It is `SequenceTop` where the batch's sequence number is
+-- above the greatest one, or its last change's is.
 unfoldable pub batch_of : List ℕ → Result Batch BatchFault
 batch_of bytes = if nat_lt (length bytes) 12 then Err TooSmall else (do
   parts ← parts_after_header bytes
   if not (stated_count bytes == change_count parts) then Err (WrongCount (stated_count bytes) (change_count parts))
-      else (if nat_lt top_sequence (batch_sequence bytes + (change_count parts - 1)) then Err SequenceTop
+      else (if nat_lt top_sequence (batch_sequence bytes) || nat_lt (top_sequence + 1) (batch_sequence bytes + change_count parts) then Err SequenceTop
       else Ok (record { sequence = batch_sequence bytes; parts = parts })))
 
 -- puts of `a`, `b` and `c` from sequence number 5 on, with the count that is stated
@@ -150,6 +151,23 @@ of_the_last_change = refl
 of_one_change_too_many : batch_of (at_top 2 ((0 ∷ 1 ∷ codes "a") ++ (0 ∷ 1 ∷ codes "b"))) ≡ Err SequenceTop
 unfolding batch_of in_turn at_top
 of_one_change_too_many = refl
+
+-- a batch without a change, one above the greatest sequence number, with the count that is stated
+above_top : ℕ → List ℕ
+above_top count = replicate 7 0 ++ 1 ∷ count ∷ 0 ∷ 0 ∷ 0 ∷ []
+
+of_a_sequence_number_above_the_top : batch_of (above_top 0) ≡ Err SequenceTop
+unfolding batch_of in_turn above_top
+of_a_sequence_number_above_the_top = refl
+
+wrong_count_before_sequence_top : batch_of (above_top 1) ≡ Err (WrongCount 1 0)
+unfolding batch_of in_turn above_top
+wrong_count_before_sequence_top = refl
+
+of_a_deletion_in_a_family : batch_of (1 ∷ 0 ∷ 0 ∷ 0 ∷ 0 ∷ 0 ∷ 0 ∷ 0 ∷ 1 ∷ 0 ∷ 0 ∷ 0 ∷ 4 ∷ 7 ∷ 1 ∷ codes "a")
+    ≡ Ok (record { sequence = 1; parts = change 12 (record { family = 7; key = codes "a"; sequence = 1; kind = Deletion; value = [] }) ∷ [] })
+unfolding batch_of in_turn
+of_a_deletion_in_a_family = refl
 
 -- The count is wrong as well, but is looked at later.
 of_a_cut_record : batch_of (at_top 0 (0xD ∷ 1 ∷ 1 ∷ 0x61 ∷ 2 ∷ codes "x")) ≡ Err (BadRecord 13)

@@ -10,8 +10,8 @@ ghost use Rattle.rk_bytes.specs.Model.Numbers.{varint_of, varint32_at, varint64_
 ghost use Rattle.rk_bytes.specs.Model.Checksums.{crc32c, crc32c_extended, mask, unmask};
 ghost use Rattle.rk_bytes.specs.Model.LogMarks.{Mark, log_marks};
 ghost use Rattle.rk_bytes.specs.Model.LogItems.{Item, Parts, EndsOnce, parting};
-ghost use Rattle.rk_bytes.specs.Model.InternalKey.{internal_key, key_parts, key_cmp};
-ghost use Rattle.rk_bytes.specs.Model.Records.{last_records, over, place_cmp};
+ghost use Rattle.rk_bytes.specs.Model.InternalKey.{internal_key, KeyParts, key_parts, key_cmp};
+ghost use Rattle.rk_bytes.specs.Model.Records.{Place, last_records, over, place_cmp};
 ghost use Rattle.rk_bytes.specs.Model.BlockEntries.{Entry, IsBlock, SpellsEntry, block_entries, SpellsDeltaEntry, no_handle, delta_handles};
 ghost use Rattle.rk_bytes.specs.Model.Output.{Command, Spells, command_of};
 
@@ -38,9 +38,10 @@ pub fn one_parting()
     ensures unique { (marks : List Mark) (items others : List Item) → Parts marks items → Parts marks others → others ≡ items }
 {}
 
-/// Law: an internal key has the parts that it was made of.
+/// Law: an internal key has the parts that it was made of, and the parts that are read of a key make it.
 pub fn key_round_trip()
-    ensures { (user : List ℕ) (sequence : ℕ) (kind : Kind) → sequence < 2 ^ 56 → key_parts (internal_key user sequence kind) ≡ Ok (record { user = user; sequence = sequence; kind = kind }) }
+    ensures key { (user : List ℕ) (sequence : ℕ) (kind : Kind) → sequence < 2 ^ 56 → key_parts (internal_key user sequence kind) ≡ Ok (record { user = user; sequence = sequence; kind = kind }) }
+    ensures parts { (key : List ℕ) (parts : KeyParts) → All (λ x. x < 256) key → key_parts key ≡ Ok parts → internal_key parts.user parts.sequence parts.kind ≡ key }
 {}
 
 /// Law: internal keys are in a total order, in which no two keys of 8 bytes at least stand at one place.
@@ -49,9 +50,10 @@ pub fn key_order()
     ensures only_equal { (a b : List ℕ) → 8 ≤ length a → 8 ≤ length b → All (λ x. x < 256) a → All (λ x. x < 256) b → key_cmp a b ≡ Equal → a ≡ b }
 {}
 
-/// Law: places are in a total order.
+/// Law: places are in a total order, which tells any two apart.
 pub fn place_order()
-    ensures { IsTotalOrder place_cmp }
+    ensures total { IsTotalOrder place_cmp }
+    ensures only_equal { (a b : Place) → place_cmp a b ≡ Equal → a ≡ b }
 {}
 
 /// Law: the last records of a list after another lie over those of the other.

@@ -66,9 +66,9 @@ pub struct FileMeta {
     pub level: u32,
     /// The file's length in bytes.
     pub size: u64,
-    /// The least internal key.
+    /// The stated lower bound, an internal key.
     pub smallest: Bytes,
-    /// The greatest internal key.
+    /// The stated upper bound, an internal key.
     pub largest: Bytes,
 }
 
@@ -94,6 +94,6 @@ pub struct Version {
     pub last_sequence: Option<u64>,
     /// The least number of a log that is still needed.
     pub least_log: u64,
-    /// The greatest id of a family so far.
+    /// The greatest family id that an edit stated.
     pub greatest_family: u32,
 }
