@@ -47,15 +47,15 @@ impl<'r, R: Files> FolderDisk<'r, R> {
         })
     }
 
-    // The answer to the caller. A failure of the system is counted, and want of memory isn't one.
+    // The answer to the caller. A failure of the system is counted.
     fn counted<T>(&mut self, answer: io::Result<T>) -> Result<T, DiskErr>
         ensures value { IfOk result (λ value. answer ≡ Ok value) }
+        ensures failed { IfErr result (λ error. error ≡ DiskErr.Failed) }
         ensures count { Counts (disk_failed result) self.old.failures self.new.failures }
         ensures path { self.new.path ≡ self.old.path }
     {
         match answer {
             Ok(value) => Ok(value),
-            Err(error) if error.kind() == ErrorKind::OutOfMemory => Err(DiskErr::Memory),
             Err(_) => {
                 self.failures = self.failures.saturating_add(1);
                 Err(DiskErr::Failed)
@@ -84,36 +84,21 @@ impl<'r, R: Files> FolderDisk<'r, R> {
         }
     }
 
-    // The path of the file of that name and its length, or `None` where there is none. A name leads
-    // to no other folder than `lost`.
-    fn find(&self, name: &str) -> io::Result<Option<(PathBuf, u64)>>
-        ensures { IfErr result (λ error. error_kind error ≢ ErrorKind.NotFound) }
-    {
+    // The path of the file of that name, or `None` where the name leads to another folder than `lost`.
+    fn path_of(&self, name: &str) -> Result<Option<PathBuf>, Memory> {
         if name.strip_prefix("lost/").unwrap_or(name).contains('/') {
             return Ok(None);
         }
-        let path = self.path.join(self.alloc, name)?;
-        match self.length_at(path.as_path())? {
-            Some(length) => Ok(Some((path, length))),
-            None => Ok(None),
-        }
+        Ok(Some(self.path.join(self.alloc, name)?))
     }
 
-    fn length_of(&self, name: &str) -> io::Result<Option<u64>>
-        ensures { IfErr result (λ error. error_kind error ≢ ErrorKind.NotFound) }
-    {
-        match self.find(name)? {
-            Some((_, length)) => Ok(Some(length)),
-            None => Ok(None),
-        }
-    }
-
-    fn part_of(&self, name: &str, at: u64, buf: &mut [u8]) -> io::Result<usize>
+    // Fills the front of the buffer with the bytes of the regular file at the path from `at` on.
+    fn part_at(&self, path: Path<'_>, at: u64, buf: &mut [u8]) -> io::Result<usize>
         ensures { IfOk result (λ n. n ≤ length buf.old) }
     {
-        match self.find(name)? {
-            Some((path, length)) if at < length => {
-                let mut file = File::open(self.rt, path.as_path())?;
+        match self.length_at(path)? {
+            Some(length) if at < length => {
+                let mut file = File::open(self.rt, path)?;
                 file.seek(SeekFrom::Start(at))?;
                 fill(&mut file, buf)
             }
@@ -156,18 +141,29 @@ impl<'r, R: Files> Disk for FolderDisk<'r, R> {
     ghost faults = { λ disk. disk.failures };
 
     fn names(&mut self, alloc: Global) -> Result<Seq<Text>, DiskErr> {
-        let answer = self.all_names();
-        let names = self.counted(answer)?;
-        Ok(texts(alloc, &names)?)
+        match self.all_names() {
+            // The names that the system gives are kept in the program's memory.
+            Err(error) if error.kind() == ErrorKind::OutOfMemory => Err(DiskErr::Memory),
+            answer => {
+                let names = self.counted(answer)?;
+                Ok(texts(alloc, &names)?)
+            }
+        }
     }
 
     fn size(&mut self, name: &str) -> Result<Option<u64>, DiskErr> {
-        let answer = self.length_of(name);
+        let Some(path) = self.path_of(name)? else {
+            return Ok(None);
+        };
+        let answer = self.length_at(path.as_path());
         self.counted(answer)
     }
 
     fn read(&mut self, name: &str, at: u64, buf: &mut [u8]) -> Result<usize, DiskErr> {
-        let answer = self.part_of(name, at, buf);
+        let Some(path) = self.path_of(name)? else {
+            return Ok(0);
+        };
+        let answer = self.part_at(path.as_path(), at, buf);
         self.counted(answer)
     }
 }

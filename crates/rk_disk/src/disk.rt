@@ -1,4 +1,4 @@
-ghost use Rattle.std.specs.Prelude.{◌≡◌, ℕ, ◌+◌, ◌^◌, ◌<◌, ◌≤◌, ◌++◌, List, length, drop, Option, [], IfOk, IfSome, unwrap_or, option_map};
+ghost use Rattle.std.specs.Prelude.{◌≡◌, ℕ, ◌+◌, ◌^◌, ◌<◌, ◌≤◌, ◌++◌, List, length, drop, Option, [], IfOk, IfSome, unwrap_or, option_map, IsErrOf};
 ghost use Rattle.std.specs.FinMap as map;
 ghost use Rattle.rk_bytes.specs.Model.DiskImages.{Directory, part_at, Counts};
 ghost use Rattle.rk_disk.specs.Faults.{disk_failed};
@@ -67,7 +67,7 @@ pub trait Disk {
     /// The length of a file, or `None` where there is no file of that name.
     fn size(&mut self, name: &str) -> Result<Option<u64>, DiskErr>
         ensures size { IfOk result (λ size. IfSome (contents self.old) (λ files. size ≡ option_map length (map.get files name.now))) }
-        ensures short { IfSome (contents self.old) (λ files. IfSome (map.get files name.now) (λ bytes. length bytes < 2 ^ 64)) }
+        ensures short { IfOk result (λ _. IfSome (contents self.old) (λ files. IfSome (map.get files name.now) (λ bytes. length bytes < 2 ^ 64))) }
         ensures contents { contents self.new ≡ contents self.old }
         ensures faults { Counts (disk_failed result) (faults self.old) (faults self.new) };
 
@@ -78,6 +78,7 @@ pub trait Disk {
         ensures part { IfOk result (λ n. IfSome (contents self.old) (λ files.
             let part = part_at at (length buf.old) (unwrap_or (map.get files name.now) []) in
             (n ≡ length part) × (buf.new ≡ part ++ drop n buf.old))) }
+        ensures memory { IsErrOf result DiskErr.Memory → buf.new ≡ buf.old }
         ensures contents { contents self.new ≡ contents self.old }
         ensures faults { Counts (disk_failed result) (faults self.old) (faults self.new) };
 }

@@ -98,18 +98,16 @@ impl Disk for MemDisk {
     /// Takes no memory.
     fn size(&mut self, name: &str) -> Result<Option<u64>, DiskErr>
         ensures size { IfOk result (λ size. size ≡ option_map length (map.get self.old.files name.now)) }
-        ensures short { IfSome (map.get self.old.files name.now) (λ bytes. length bytes < 2 ^ 64) }
+        ensures short { IfOk result (λ _. IfSome (map.get self.old.files name.now) (λ bytes. length bytes < 2 ^ 64)) }
         ensures exactly { IsErrOf result DiskErr.Failed ↔ IsTrue (fails_next self.old.plan) }
         ensures memory { ¬ IsErrOf result DiskErr.Memory }
         ensures counted { self.new ≡ after_reading self.old }
         ensures faults { Counts (disk_failed result) (faults_of self.old.plan) (faults_of self.new.plan) }
     {
-        // Before the call may fail, since `short` holds of a call that fails too.
-        let size = self.files.size(name);
         if self.plan.count_call() {
             return Err(DiskErr::Failed);
         }
-        Ok(size)
+        Ok(self.files.size(name))
     }
 
     /// Takes no memory. A call that fails leaves the buffer.

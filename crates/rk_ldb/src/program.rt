@@ -1,4 +1,4 @@
-ghost use Rattle.std.specs.Prelude.{◌≡◌, ℕ, ◌+◌, ◌^◌, ◌<◌, ◌⊎◌, ◌∷◌, [], Ok, IfOk, IsErrOf, IfSome, IsNone, length, take};
+ghost use Rattle.std.specs.Prelude.{◌≡◌, ℕ, ◌+◌, ◌^◌, ◌<◌, ◌⊎◌, ◌∷◌, [], Ok, IfOk, OnOk, IsErrOf, IfSome, IsNone, length, take};
 ghost use Rattle.rk_bytes.specs.Model.DiskImages.{Rose};
 ghost use Rattle.rk_bytes.specs.Model.Output.{output, text, command_of, command_output, usage_line, disk_fault_line, memory_fault_line, Took, TookLines, TookFront};
 ghost use Rattle.rk_ldb.specs.Answers.{IsAnswer, IsCommandAnswer, EndsInFault, TookPart};
@@ -20,15 +20,16 @@ pub fn run<D: Disk, S: Sink>(alloc: Global, words: &[Text], disk: &mut D, out: &
     ensures answer { IsAnswer result → IfSome (D.contents disk.old) (λ d.
         Took (S.taken out.old) (S.taken out.new) (text (output words.now d)) × (result ≡ (output words.now d).status)) }
 
-    // The words alone decide whether the answer is the usage line.
-    ensures usage { result ≡ Status.Usage → IsNone (command_of words.now) }
+    // The words alone decide whether the answer is the usage line, whatever the disk tells.
+    ensures usage { result ≡ Status.Usage → IsNone (command_of words.now) × Took (S.taken out.old) (S.taken out.new) usage_line }
     ensures no_usage { IsNone (command_of words.now) → (result ≡ Status.Usage) ⊎ ((result ≡ Status.SinkFault) ⊎ (result ≡ Status.Memory)) }
 
-    // A fault has a cause, and the first one counts.
+    // An answer hides no fault. A fault has a cause, and the first one counts.
+    ensures no_fault { IsAnswer result → (D.faults disk.new ≡ D.faults disk.old) × (S.faults out.new ≡ S.faults out.old) }
     ensures disk_fault { result ≡ Status.DiskFault → Rose (D.faults disk.old) (D.faults disk.new) }
     ensures sink_fault { result ≡ Status.SinkFault → Rose (S.faults out.old) (S.faults out.new) × (D.faults disk.new ≡ D.faults disk.old) }
 
-    // Where the disk failed first, want of memory is the output's, at the line of that fault.
+    // After a fault of the disk whole lines were taken, and want of memory left out the fault's line.
     ensures memory { result ≡ Status.Memory → (D.faults disk.new ≡ D.faults disk.old) ⊎ IfSome (D.contents disk.old) (λ d.
         TookLines (S.taken out.old) (S.taken out.new) (output words.now d).lines []) }
 
@@ -59,7 +60,7 @@ fn answer<D: Disk, S: Sink>(
 ) -> Result<Status, Stop>
     ensures lines { IfSome (D.contents disk.old) (λ d. TookUpTo (S.taken out.old) (S.taken out.new) (output words.now d).lines result) }
     ensures status { IfSome (D.contents disk.old) (λ d. IfOk result (λ status. status ≡ (output words.now d).status)) }
-    ensures usage { IfOk result (λ status. IsCommandAnswer status ⊎ ((status ≡ Status.Usage) × IsNone (command_of words.now))) }
+    ensures usage { IfOk result (λ status. IsCommandAnswer status ⊎ ((status ≡ Status.Usage) × (IsNone (command_of words.now) × Took (S.taken out.old) (S.taken out.new) usage_line))) }
     ensures no_usage { IsNone (command_of words.now) → (result ≡ Ok Status.Usage) ⊎ (IsErrOf result Stop.Sink ⊎ IsErrOf result Stop.Memory) }
     ensures counts { CountsStop (D.faults disk.old) (D.faults disk.new) (S.faults out.old) (S.faults out.new) result }
     ensures contents { D.contents disk.new ≡ D.contents disk.old }
@@ -73,6 +74,7 @@ fn answer<D: Disk, S: Sink>(
 /// Writes the line that answers words which spell no command.
 fn answer_with_usage<S: Sink>(out: &mut S) -> Result<Status, Stop>
     ensures lines { TookUpTo (S.taken out.old) (S.taken out.new) (usage_line ∷ []) result }
+    ensures line { OnOk result (Took (S.taken out.old) (S.taken out.new) usage_line) }
     ensures status { IfOk result (λ status. status ≡ Status.Usage) }
     ensures counts { CountsStop 0 0 (S.faults out.old) (S.faults out.new) result }
 {

@@ -3,9 +3,13 @@ use crate::{Status, run};
 use rk_bytes::{Memory, Text};
 use rk_disk::{MemDisk, MemSink};
 use std::alloc::Global;
+use std::process::Abort;
 use std::test::Fail;
 
 const USAGE: &str = "usage: scan get families manifest_dump dump_wal check repair sst drill\n";
+
+/// What is written of the log of two records.
+const WHOLE: &str = "record 0 17\nrecord 24 17\nend 48 Clean\n";
 
 /// A log of two records, each a write batch of one put. Its checksums are computed elsewhere.
 const TWO_RECORDS: [u8; 48] = [
@@ -40,6 +44,36 @@ fn outcome(
     Ok((status, disk, out))
 }
 
+/// Dumps one log, and compares what was written and the status.
+fn expect_dump<R: Abort + AllocGlobal>(
+    rt: &R,
+    file: Option<(&str, &[u8])>,
+    number: &str,
+    lines: &str,
+    wanted: Status,
+) -> Result<(), Fail> {
+    let words = ["dump_wal", number];
+    let (status, _, out) = outcome(rt.alloc(), file, (None, None), &words)?;
+    assert_eq!(rt; out.taken(), lines.as_bytes(), "of log {number}");
+    assert_eq!(rt; status, wanted);
+    Ok(())
+}
+
+/// Dumps the log of two records while calls fail, and compares likewise.
+fn expect_fault<R: Abort + AllocGlobal>(
+    rt: &R,
+    failing: (Option<u64>, Option<u64>),
+    lines: &str,
+    wanted: Status,
+) -> Result<u64, Fail> {
+    let file = Some(("000003.log", TWO_RECORDS.as_slice()));
+    let (status, disk, out) = outcome(rt.alloc(), file, failing, &["dump_wal", "3"])?;
+    assert_eq!(rt; out.taken(), lines.as_bytes(), "failing at {failing:?}");
+    assert_eq!(rt; status, wanted);
+    assert_eq!(rt; disk.file("000003.log"), Some(TWO_RECORDS.as_slice()));
+    Ok(disk.calls())
+}
+
 #[test]
 fn words_in_no_grammar_are_answered_with_the_usage_line(rt: HostRuntime) -> Result<(), Fail> {
     let cases: [&[&str]; 13] = [
@@ -67,129 +101,99 @@ fn words_in_no_grammar_are_answered_with_the_usage_line(rt: HostRuntime) -> Resu
 }
 
 #[test]
-fn a_log_is_dumped_or_refused(rt: HostRuntime) -> Result<(), Fail> {
-    let mut long = [0u8; 32_768];
-    long[4] = 0xfa;
-    long[5] = 0x7f;
-    long[6] = 1;
-    let cases: [(Option<(&str, &[u8])>, &str, &str, Status); 10] = [
-        (
-            Some(("000003.log", &[])),
-            "3",
-            "end 0 Clean\n",
-            Status::Done,
-        ),
-        (None, "3", "refused: NoLog 3\n", Status::Refused),
-        (
-            Some(("000004.log", &[])),
-            "3",
-            "refused: NoLog 3\n",
-            Status::Refused,
-        ),
-        (
-            Some(("000003.log", &TWO_RECORDS)),
-            "3",
-            "record 0 17\nrecord 24 17\nend 48 Clean\n",
-            Status::Done,
-        ),
-        (
-            Some(("000003.log", &[0, 0, 0, 0, 0, 0, 5])),
-            "3",
-            "end 0 Unsupported 5\n",
-            Status::Done,
-        ),
-        (
-            Some(("000003.log", &long)),
-            "3",
-            "gap 0 Length\nend 32768 Clean\n",
-            Status::Done,
-        ),
-        (
-            Some(("000003.log", &long[..32_767])),
-            "3",
-            "end 0 Torn\n",
-            Status::Done,
-        ),
-        (
-            Some(("000000.log", &[])),
-            "0",
-            "end 0 Clean\n",
-            Status::Done,
-        ),
-        (
-            Some(("12345678.log", &TWO_RECORDS[..24])),
-            "12345678",
-            "record 0 17\nend 24 Clean\n",
-            Status::Done,
-        ),
-        (
-            None,
-            "18446744073709551615",
-            "refused: NoLog 18446744073709551615\n",
-            Status::Refused,
-        ),
-    ];
-    for (file, number, lines, wanted) in cases {
-        let words = ["dump_wal", number];
-        let (status, _, out) = outcome(rt.alloc(), file, (None, None), &words)?;
-        assert_eq!(rt; out.taken(), lines.as_bytes(), "of log {number}");
-        assert_eq!(rt; status, wanted);
-    }
-    Ok(())
+fn an_absent_log_is_refused(rt: HostRuntime) -> Result<(), Fail> {
+    let none = Status::Refused;
+    expect_dump(&rt, None, "3", "refused: NoLog 3\n", none)?;
+    let other = Some(("000004.log", b"".as_slice()));
+    expect_dump(&rt, other, "3", "refused: NoLog 3\n", none)?;
+    let most = "18446744073709551615";
+    expect_dump(
+        &rt,
+        None,
+        most,
+        "refused: NoLog 18446744073709551615\n",
+        none,
+    )
 }
 
-/// `dump_wal 3` over the log of two records asks for its size and reads once.
+#[test]
+fn a_log_is_dumped(rt: HostRuntime) -> Result<(), Fail> {
+    let done = Status::Done;
+    let empty = b"".as_slice();
+    let records = TWO_RECORDS.as_slice();
+    let recyclable = b"\0\0\0\0\0\0\x05".as_slice();
+    expect_dump(&rt, Some(("000003.log", empty)), "3", "end 0 Clean\n", done)?;
+    expect_dump(&rt, Some(("000003.log", records)), "3", WHOLE, done)?;
+    expect_dump(
+        &rt,
+        Some(("000003.log", recyclable)),
+        "3",
+        "end 0 Unsupported 5\n",
+        done,
+    )?;
+    expect_dump(&rt, Some(("000000.log", empty)), "0", "end 0 Clean\n", done)?;
+    let first = "record 0 17\nend 24 Clean\n";
+    expect_dump(
+        &rt,
+        Some(("12345678.log", &records[..24])),
+        "12345678",
+        first,
+        done,
+    )
+}
+
+/// A block whose first header says a payload of 32,762 bytes, which passes the block's end.
+#[test]
+fn a_payload_past_the_end_is_a_gap_or_torn(rt: HostRuntime) -> Result<(), Fail> {
+    let mut block = vec![in rt.alloc(); 0u8; 32_768]?;
+    block[4] = 0xfa;
+    block[5] = 0x7f;
+    block[6] = 1;
+    let full = block.as_slice();
+    let gap = "gap 0 Length\nend 32768 Clean\n";
+    expect_dump(&rt, Some(("000003.log", full)), "3", gap, Status::Done)?;
+    block.truncate(32_767);
+    let short = block.as_slice();
+    expect_dump(
+        &rt,
+        Some(("000003.log", short)),
+        "3",
+        "end 0 Torn\n",
+        Status::Done,
+    )
+}
+
+/// The disk is asked for the size, and then once for the bytes.
 #[test]
 fn each_call_of_the_disk_may_fail(rt: HostRuntime) -> Result<(), Fail> {
-    let whole = "record 0 17\nrecord 24 17\nend 48 Clean\n";
-    let cases = [
-        (1, "fault: disk\n", Status::DiskFault),
-        (2, "fault: disk\n", Status::DiskFault),
-        (3, whole, Status::Done),
-    ];
-    let file = ("000003.log", TWO_RECORDS.as_slice());
-    for (call, lines, wanted) in cases {
-        let failing = (Some(call), None);
-        let (status, disk, out) = outcome(rt.alloc(), Some(file), failing, &["dump_wal", "3"])?;
-        assert_eq!(rt; out.taken(), lines.as_bytes(), "failing at {call}");
-        assert_eq!(rt; status, wanted);
-        assert_eq!(rt; disk.calls(), call.min(2));
-        assert_eq!(rt; disk.file("000003.log"), Some(TWO_RECORDS.as_slice()));
-    }
+    let fault = "fault: disk\n";
+    let calls = expect_fault(&rt, (Some(1), None), fault, Status::DiskFault)?;
+    assert_eq!(rt; calls, 1);
+    let calls = expect_fault(&rt, (Some(2), None), fault, Status::DiskFault)?;
+    assert_eq!(rt; calls, 2);
+    let calls = expect_fault(&rt, (Some(3), None), WHOLE, Status::Done)?;
+    assert_eq!(rt; calls, 2);
     Ok(())
 }
 
-/// The same writes three lines.
+/// The output takes three lines.
 #[test]
 fn each_call_of_the_output_may_fail(rt: HostRuntime) -> Result<(), Fail> {
-    let cases = [
-        (1, "", Status::SinkFault),
-        (2, "record 0 17\n", Status::SinkFault),
-        (3, "record 0 17\nrecord 24 17\n", Status::SinkFault),
-        (4, "record 0 17\nrecord 24 17\nend 48 Clean\n", Status::Done),
-    ];
-    let file = ("000003.log", TWO_RECORDS.as_slice());
-    for (call, lines, wanted) in cases {
-        let failing = (None, Some(call));
-        let (status, _, out) = outcome(rt.alloc(), Some(file), failing, &["dump_wal", "3"])?;
-        assert_eq!(rt; out.taken(), lines.as_bytes(), "failing at {call}");
-        assert_eq!(rt; status, wanted);
-    }
+    let fault = Status::SinkFault;
+    expect_fault(&rt, (None, Some(1)), "", fault)?;
+    expect_fault(&rt, (None, Some(2)), "record 0 17\n", fault)?;
+    let two = "record 0 17\nrecord 24 17\n";
+    expect_fault(&rt, (None, Some(3)), two, fault)?;
+    expect_fault(&rt, (None, Some(4)), WHOLE, Status::Done)?;
     Ok(())
 }
 
 #[test]
 fn the_first_fault_gives_the_status(rt: HostRuntime) -> Result<(), Fail> {
-    let file = ("000003.log", TWO_RECORDS.as_slice());
-    let words = ["dump_wal", "3"];
-    let (status, _, out) = outcome(rt.alloc(), Some(file), (Some(2), Some(1)), &words)?;
-    assert_eq!(rt; status, Status::DiskFault);
-    assert_eq!(rt; out.taken(), b"".as_slice());
-    let (status, _, out) = outcome(rt.alloc(), None, (None, Some(1)), &words)?;
-    assert_eq!(rt; status, Status::SinkFault);
-    assert_eq!(rt; out.taken(), b"".as_slice());
-    let (status, _, out) = outcome(rt.alloc(), None, (Some(1), Some(1)), &[])?;
-    assert_eq!(rt; status, Status::SinkFault);
-    assert_eq!(rt; out.taken(), b"".as_slice());
+    // The output fails at the line that names the disk's fault.
+    expect_fault(&rt, (Some(1), Some(1)), "", Status::DiskFault)?;
+    expect_fault(&rt, (Some(2), Some(1)), "", Status::DiskFault)?;
+    // The disk would have failed at a call that isn't made.
+    expect_fault(&rt, (Some(3), Some(1)), "", Status::SinkFault)?;
     Ok(())
 }
