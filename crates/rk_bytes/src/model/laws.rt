@@ -6,7 +6,7 @@ ghost use Rattle.std.specs.Cmp.{IsTotalOrder};
 ghost use Rattle.rk_bytes.specs.declared.model.block.Handle.{Handle};
 ghost use Rattle.rk_bytes.specs.declared.model.key.Kind.{Kind};
 ghost use Rattle.rk_bytes.specs.declared.model.key.Record.{Record};
-ghost use Rattle.rk_bytes.specs.Model.Numbers.{varint_of, varint32_at, varint64_at};
+ghost use Rattle.rk_bytes.specs.Model.Numbers.{varint_of, IsVarint32, IsVarint64, IsPrefixed, varint32_at, varint64_at, prefixed_at};
 ghost use Rattle.rk_bytes.specs.Model.Checksums.{crc32c, crc32c_extended, mask, unmask};
 ghost use Rattle.rk_bytes.specs.Model.LogMarks.{Mark, log_marks};
 ghost use Rattle.rk_bytes.specs.Model.LogItems.{Item, Parts, EndsOnce, parting};
@@ -29,6 +29,14 @@ pub fn crc32c_of_appended()
 pub fn varint_round_trip()
     ensures narrow { (n : ℕ) (rest : List ℕ) → n < 2 ^ 32 → varint32_at (varint_of n ++ rest) ≡ Ok (n, rest) }
     ensures wide { (n : ℕ) (rest : List ℕ) → n < 2 ^ 64 → varint64_at (varint_of n ++ rest) ≡ Ok (n, rest) }
+{}
+
+/// Law: a varint is read at the front of bytes just where they begin with a spelling of it, and so is
+/// a slice after its length.
+pub fn one_varint()
+    ensures narrow { (bytes rest : List ℕ) (n : ℕ) → AllByRecursion (λ b. b < 2 ^ 8) bytes → (varint32_at bytes ≡ Ok (n, rest)) ↔ ((part : List ℕ) × IsVarint32 part n × (bytes ≡ part ++ rest)) }
+    ensures wide { (bytes rest : List ℕ) (n : ℕ) → AllByRecursion (λ b. b < 2 ^ 8) bytes → (varint64_at bytes ≡ Ok (n, rest)) ↔ ((part : List ℕ) × IsVarint64 part n × (bytes ≡ part ++ rest)) }
+    ensures prefixed { (bytes rest slice : List ℕ) → AllByRecursion (λ b. b < 2 ^ 8) bytes → (prefixed_at bytes ≡ Ok (slice, rest)) ↔ ((part : List ℕ) × IsPrefixed part slice × (bytes ≡ part ++ rest)) }
 {}
 
 /// Law: the marks of a log are parted into items in one way, the one that `parting` gives.
