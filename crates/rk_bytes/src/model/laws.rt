@@ -11,6 +11,7 @@ ghost use Rattle.rk_bytes.specs.Model.Checksums.{crc32c, crc32c_extended, mask, 
 ghost use Rattle.rk_bytes.specs.Model.LogMarks.{Mark, log_marks};
 ghost use Rattle.rk_bytes.specs.Model.LogItems.{Item, Parts, EndsOnce, parting};
 ghost use Rattle.rk_bytes.specs.Model.InternalKey.{internal_key, key_parts, key_cmp};
+ghost use Rattle.rk_bytes.specs.Model.WriteBatch.{Batch, IsBatch, batch_of};
 ghost use Rattle.rk_bytes.specs.Model.Records.{last_records, over, place_cmp};
 ghost use Rattle.rk_bytes.specs.Model.BlockEntries.{Entry, IsBlock, SpellsEntry, block_entries, SpellsDeltaEntry, no_handle, delta_handles};
 ghost use Rattle.rk_bytes.specs.Model.Output.{Command, Spells, command_of};
@@ -78,6 +79,12 @@ pub fn one_block()
 pub fn one_delta_index()
     ensures read { (block : List ℕ) (entries : List (Entry Handle)) → AllByRecursion (λ b. b < 2 ^ 8) block → (delta_handles block ≡ Ok entries) ↔ IsBlock SpellsDeltaEntry no_handle block entries }
     ensures unique { (block : List ℕ) (entries others : List (Entry Handle)) → IsBlock SpellsDeltaEntry no_handle block entries → IsBlock SpellsDeltaEntry no_handle block others → others ≡ entries }
+{}
+
+/// Law: the batch that is read of bytes is the one that they are, and there is at most one.
+pub fn one_batch()
+    ensures read { (bytes : List ℕ) (batch : Batch) → AllByRecursion (λ b. b < 2 ^ 8) bytes → (batch_of bytes ≡ Ok batch) ↔ IsBatch bytes batch }
+    ensures unique { (bytes : List ℕ) (batch other : Batch) → IsBatch bytes batch → IsBatch bytes other → other ≡ batch }
 {}
 
 /// Law: the command of a list of words is the one that they spell, and there is at most one.
