@@ -42,6 +42,12 @@ pub record IsVarint64 (bytes : List ℕ) (n : ℕ) : Type 0 where
   pub fits : n < 2 ^ 64
   pub value : n ≡ groups_value bytes
 
+-- the bytes are this slice, after its length
+pub record IsPrefixed (bytes slice : List ℕ) : Type 0 where
+  pub len_bytes : List ℕ
+  pub len : IsVarint32 len_bytes (length slice)
+  pub parts : bytes ≡ len_bytes ++ slice
+
 -- What the writers write: so many little-endian bytes, the shortest varint, a slice after its length.
 abbrev pub fixed_of : ℕ → ℕ → List ℕ
 fixed_of zero n = []

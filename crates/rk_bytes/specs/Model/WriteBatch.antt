@@ -1,13 +1,13 @@
 -- Write batches (db/write_batch.cc). The order of the tests, and which tags are refused, are this
 -- project's own rules.
-use Rattle.std.specs.Prelude.{◌≡◌, ℕ, ◌+◌, ◌-◌, ◌^◌, Bool, not, ◌&&◌, ◌||◌, List, [], ◌∷◌, ◌++◌, length, take, drop, find, filter_map, slice_index, nat_lt, nat_le, ◌==◌, if◌then◌else◌, Option, Some, None, Result, Ok, Err, replicate, codes, refl}
+use Rattle.std.specs.Prelude.{◌≡◌, ◌⊎◌, ℕ, ◌+◌, ◌-◌, ◌^◌, ◌≤◌, Bool, not, ◌&&◌, ◌||◌, List, [], ◌∷◌, ◌++◌, length, take, drop, find, filter_map, slice_index, nat_lt, nat_le, ◌==◌, if◌then◌else◌, Option, Some, None, Result, Ok, Err, replicate, codes, refl}
 use Rattle.std.specs.List.{list_any}
 use Rattle.rk_bytes.specs.declared.model.key.Kind.{Kind}
 use Rattle.rk_bytes.specs.declared.model.key.Kind.TheVariants.{Deletion, Value, Merge, SingleDeletion, RangeDeletion}
 use Rattle.rk_bytes.specs.declared.model.key.Record.{Record}
 use Rattle.rk_bytes.specs.declared.model.batch.BatchFault.{BatchFault}
 use Rattle.rk_bytes.specs.declared.model.batch.BatchFault.TheVariants.{TooSmall, BadRecord, UnsupportedTag, WrongCount, SequenceTop}
-use Rattle.rk_bytes.specs.Model.Numbers.{Read, ◌>>=◌, little_endian, varint32_at, prefixed_at, reads_or, in_turn}
+use Rattle.rk_bytes.specs.Model.Numbers.{IsFixed32, IsFixed64, IsVarint32, IsPrefixed, Read, ◌>>=◌, little_endian, varint32_at, prefixed_at, reads_or, in_turn}
 use Rattle.rk_bytes.specs.Model.InternalKey.{all_kinds, top_sequence}
 
 -- A part of a batch has the place of its tag. A change is a record.
@@ -112,6 +112,51 @@ batch_of bytes = if nat_lt (length bytes) 12 then Err TooSmall else (do
   if not (stated_count bytes == change_count parts) then Err (WrongCount (stated_count bytes) (change_count parts))
       else (if nat_lt top_sequence (batch_sequence bytes) || nat_lt (top_sequence + 1) (batch_sequence bytes + change_count parts) then Err SequenceTop
       else Ok (record { sequence = batch_sequence bytes; parts = parts })))
+
+-- A change's tag, and the family's id after the tag that says so. Else the family is 0.
+abbrev pub SpellsFamily : List ℕ → Kind → ℕ → Type 0
+SpellsFamily bytes kind family = (bytes ≡ plain_tag kind ∷ []) × (family ≡ 0) ⊎ (id : List ℕ) × (bytes ≡ family_tag kind ∷ id) × IsVarint32 id family
+
+-- A deletion has an empty value, and no bytes for it.
+abbrev pub SpellsValue : List ℕ → Kind → List ℕ → Type 0
+SpellsValue bytes Deletion value = (bytes ≡ []) × (value ≡ [])
+SpellsValue bytes SingleDeletion value = (bytes ≡ []) × (value ≡ [])
+SpellsValue bytes _ value = IsPrefixed bytes value
+
+-- The bytes are a change with this sequence number: its tag and family, its key and its value.
+pub record SpellsChange (sequence : ℕ) (bytes : List ℕ) (r : Record) : Type 0 where
+  pub family_bytes : List ℕ
+  pub key_bytes : List ℕ
+  pub value_bytes : List ℕ
+  pub spelled : bytes ≡ family_bytes ++ (key_bytes ++ value_bytes)
+  pub family : SpellsFamily family_bytes r.kind r.family
+  pub key : IsPrefixed key_bytes r.key
+  pub value : SpellsValue value_bytes r.kind r.value
+  pub sequence_is : r.sequence ≡ sequence
+
+-- The bytes at a place are this part. If it is a change, it has this sequence number.
+abbrev pub SpellsPart : ℕ → ℕ → List ℕ → Part → Type 0
+SpellsPart place sequence bytes (change at r) = (at ≡ place) × SpellsChange sequence bytes r
+SpellsPart place sequence bytes (log_bytes at slice) = (at ≡ place) × (spelled : List ℕ) × (bytes ≡ 0x3 ∷ spelled) × IsPrefixed spelled slice
+SpellsPart place sequence bytes (noop at) = (at ≡ place) × (bytes ≡ 0xD ∷ [])
+
+-- The bytes from a place on are these parts, one after another. The first change has this sequence
+-- number, and each change takes one.
+abbrev pub SpellsParts : ℕ → ℕ → List ℕ → List Part → Type 0
+SpellsParts place sequence bytes [] = bytes ≡ []
+SpellsParts place sequence bytes (part ∷ parts) = (spelled : List ℕ) × (rest : List ℕ) × (bytes ≡ spelled ++ rest) × SpellsPart place sequence spelled part × SpellsParts (place + length spelled) (sequence + change_count (part ∷ [])) rest parts
+
+-- The bytes are this batch: its sequence number, how many changes it has, and its parts.
+pub record IsBatch (bytes : List ℕ) (batch : Batch) : Type 0 where
+  pub sequence_bytes : List ℕ
+  pub count_bytes : List ℕ
+  pub part_bytes : List ℕ
+  pub spelled : bytes ≡ sequence_bytes ++ (count_bytes ++ part_bytes)
+  pub sequence : IsFixed64 sequence_bytes batch.sequence
+  pub count : IsFixed32 count_bytes (change_count batch.parts)
+  pub parts : SpellsParts 12 batch.sequence part_bytes batch.parts
+  pub below_top : batch.sequence ≤ top_sequence
+  pub last_below_top : batch.sequence + change_count batch.parts ≤ top_sequence + 1
 
 -- puts of `a`, `b` and `c` from sequence number 5 on, with the count that is stated
 three_puts : ℕ → List ℕ

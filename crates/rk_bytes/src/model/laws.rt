@@ -6,11 +6,12 @@ ghost use Rattle.std.specs.Cmp.{IsTotalOrder};
 ghost use Rattle.rk_bytes.specs.declared.model.block.Handle.{Handle};
 ghost use Rattle.rk_bytes.specs.declared.model.key.Kind.{Kind};
 ghost use Rattle.rk_bytes.specs.declared.model.key.Record.{Record};
-ghost use Rattle.rk_bytes.specs.Model.Numbers.{varint_of, varint32_at, varint64_at};
+ghost use Rattle.rk_bytes.specs.Model.Numbers.{varint_of, IsVarint32, IsVarint64, IsPrefixed, varint32_at, varint64_at, prefixed_at};
 ghost use Rattle.rk_bytes.specs.Model.Checksums.{crc32c, crc32c_extended, mask, unmask};
 ghost use Rattle.rk_bytes.specs.Model.LogMarks.{Mark, log_marks};
 ghost use Rattle.rk_bytes.specs.Model.LogItems.{Item, Parts, EndsOnce, parting};
 ghost use Rattle.rk_bytes.specs.Model.InternalKey.{internal_key, KeyParts, key_parts, key_cmp};
+ghost use Rattle.rk_bytes.specs.Model.WriteBatch.{Batch, IsBatch, batch_of};
 ghost use Rattle.rk_bytes.specs.Model.Records.{Place, last_records, over, place_cmp};
 ghost use Rattle.rk_bytes.specs.Model.BlockEntries.{Entry, IsBlock, SpellsEntry, block_entries, SpellsDeltaEntry, no_handle, delta_handles};
 ghost use Rattle.rk_bytes.specs.Model.Output.{Command, Spells, command_of};
@@ -29,6 +30,14 @@ pub fn crc32c_of_appended()
 pub fn varint_round_trip()
     ensures narrow { (n : ℕ) (rest : List ℕ) → n < 2 ^ 32 → varint32_at (varint_of n ++ rest) ≡ Ok (n, rest) }
     ensures wide { (n : ℕ) (rest : List ℕ) → n < 2 ^ 64 → varint64_at (varint_of n ++ rest) ≡ Ok (n, rest) }
+{}
+
+/// Law: a varint is read at the front of bytes just where they begin with a spelling of it, and so is
+/// a slice after its length.
+pub fn one_varint()
+    ensures narrow { (bytes rest : List ℕ) (n : ℕ) → AllByRecursion (λ b. b < 2 ^ 8) bytes → (varint32_at bytes ≡ Ok (n, rest)) ↔ ((part : List ℕ) × IsVarint32 part n × (bytes ≡ part ++ rest)) }
+    ensures wide { (bytes rest : List ℕ) (n : ℕ) → AllByRecursion (λ b. b < 2 ^ 8) bytes → (varint64_at bytes ≡ Ok (n, rest)) ↔ ((part : List ℕ) × IsVarint64 part n × (bytes ≡ part ++ rest)) }
+    ensures prefixed { (bytes rest slice : List ℕ) → AllByRecursion (λ b. b < 2 ^ 8) bytes → (prefixed_at bytes ≡ Ok (slice, rest)) ↔ ((part : List ℕ) × IsPrefixed part slice × (bytes ≡ part ++ rest)) }
 {}
 
 /// Law: the marks of a log are parted into items in one way, the one that `parting` gives.
@@ -72,6 +81,12 @@ pub fn one_block()
 pub fn one_delta_index()
     ensures read { (block : List ℕ) (entries : List (Entry Handle)) → AllByRecursion (λ b. b < 2 ^ 8) block → (delta_handles block ≡ Ok entries) ↔ IsBlock SpellsDeltaEntry no_handle block entries }
     ensures unique { (block : List ℕ) (entries others : List (Entry Handle)) → IsBlock SpellsDeltaEntry no_handle block entries → IsBlock SpellsDeltaEntry no_handle block others → others ≡ entries }
+{}
+
+/// Law: the batch that is read of bytes is the one that they are, and there is at most one.
+pub fn one_batch()
+    ensures read { (bytes : List ℕ) (batch : Batch) → AllByRecursion (λ b. b < 2 ^ 8) bytes → (batch_of bytes ≡ Ok batch) ↔ IsBatch bytes batch }
+    ensures unique { (bytes : List ℕ) (batch other : Batch) → IsBatch bytes batch → IsBatch bytes other → other ≡ batch }
 {}
 
 /// Law: the command of a list of words is the one that they spell, and there is at most one.
