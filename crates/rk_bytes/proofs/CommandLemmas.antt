@@ -7,7 +7,7 @@ use Rattle.std.proofs.lemmas.Bool.{false≢true, ltb-true, lt-ltb}
 use Rattle.std.proofs.lemmas.Option.{cond_some}
 use Rattle.std.proofs.lemmas.Slice.Eq.{bytes_eq-Decides}
 use Rattle.std.proofs.lemmas.Fmt.{decimal_is_IsNumeral}
-use Rattle.rk_bytes.specs.Model.Output.{Command, dump_wal, Spells, number_of, command_of}
+use Rattle.rk_bytes.specs.Model.Output.{Command, dump_wal, SpellsCommand, number_of, command_of}
 
 parts_true : (a b : Bool) → (a && b) ≡ true → (a ≡ true) × (b ≡ true)
 parts_true true b e = (refl, e)
@@ -41,7 +41,7 @@ guarded_some : {A : Type 0} (b : Bool) (o : Option A) (y : A) → cond b o None 
 guarded_some true o y e = (refl, e)
 guarded_some false o y e = cc
 
-spelled : (words : List (List ℕ)) (command : Command) → command_of words ≡ Some command → Spells words command
+spelled : (words : List (List ℕ)) (command : Command) → command_of words ≡ Some command → SpellsCommand words command
 spelled [] (dump_wal n) e = cc
 spelled (verb ∷ []) (dump_wal n) e = cc
 spelled (verb ∷ number ∷ more ∷ words) (dump_wal n) e = cc
@@ -51,9 +51,9 @@ spelled (verb ∷ number ∷ []) (dump_wal n) e =
     let digits = number_spelled number n (some_dump (number_of number) n parts.1) in
     (digits.0, λ i. name i ∷ digits.1 i ∷ [])
 
-read_back : (words : List (List ℕ)) (command : Command) → Spells words command → command_of words ≡ Some command
+read_back : (words : List (List ℕ)) (command : Command) → SpellsCommand words command → command_of words ≡ Some command
 read_back words (dump_wal n) spells =
     ap command_of spells.1 ∙ ap (option_map dump_wal) (number_read n spells.0)
 
-pub command_of-Spells : (words : List (List ℕ)) (command : Command) → (command_of words ≡ Some command) ↔ Spells words command
-command_of-Spells words command = (spelled words command, read_back words command)
+pub command_of-SpellsCommand : (words : List (List ℕ)) (command : Command) → (command_of words ≡ Some command) ↔ SpellsCommand words command
+command_of-SpellsCommand words command = (spelled words command, read_back words command)

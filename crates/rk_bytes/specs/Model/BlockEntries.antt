@@ -63,7 +63,7 @@ rises (a ∷ b ∷ numbers) = nat_lt a b && rises (b ∷ numbers)
 rises _ = true
 
 -- a restart offset is the place of an entry that shares nothing
-abbrev pub is_restart : {V : Type 0} → List (Entry V) → ℕ → Bool
+abbrev is_restart : {V : Type 0} → List (Entry V) → ℕ → Bool
 is_restart entries offset = list_any (λ entry. entry.place == offset && entry.shared == 0) entries
 
 abbrev pub right_restarts : {V : Type 0} → List (Entry V) → List ℕ → Bool
@@ -219,7 +219,7 @@ pub record SpellsDeltaEntry (before : Entry Handle) (bytes : List ℕ) (entry : 
   pub value : SpellsDeltaValue entry.shared before.value handle entry.value
 
 -- an entry whose value is one whole handle
-abbrev pub with_handle : Entry (List ℕ) → Result (Entry Handle) IndexFault
+abbrev with_handle : Entry (List ℕ) → Result (Entry Handle) IndexFault
 with_handle entry = ok_or (option_map (λ handle. record { place = entry.place; shared = entry.shared; key = entry.key; value = handle }) (whole (handle_at entry.value))) BadHandle
 
 -- Without delta encoding the handles are read once the block has passed its tests.

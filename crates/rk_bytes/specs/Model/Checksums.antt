@@ -56,19 +56,19 @@ abbrev pub folded : ℕ → ℕ → ℕ
 folded shift hash = bit_xor hash (hash / 2 ^ shift)
 
 -- the primes of XXH32
-abbrev pub prime32_1 : ℕ
+abbrev prime32_1 : ℕ
 prime32_1 = 0x9E3779B1
 
-abbrev pub prime32_2 : ℕ
+abbrev prime32_2 : ℕ
 prime32_2 = 0x85EBCA77
 
-abbrev pub prime32_3 : ℕ
+abbrev prime32_3 : ℕ
 prime32_3 = 0xC2B2AE3D
 
-abbrev pub prime32_4 : ℕ
+abbrev prime32_4 : ℕ
 prime32_4 = 0x27D4EB2F
 
-abbrev pub prime32_5 : ℕ
+abbrev prime32_5 : ℕ
 prime32_5 = 0x165667B1
 
 abbrev pub xxh32_round : ℕ → ℕ → ℕ
@@ -102,19 +102,19 @@ xxh32 bytes =
     xxh32_mixed (xxh32_with_rest ((start + length bytes) % 2 ^ 32) (after_pieces 16 bytes))
 
 -- the primes of XXH64
-abbrev pub prime64_1 : ℕ
+abbrev prime64_1 : ℕ
 prime64_1 = 0x9E3779B185EBCA87
 
-abbrev pub prime64_2 : ℕ
+abbrev prime64_2 : ℕ
 prime64_2 = 0xC2B2AE3D27D4EB4F
 
-abbrev pub prime64_3 : ℕ
+abbrev prime64_3 : ℕ
 prime64_3 = 0x165667B19E3779F9
 
-abbrev pub prime64_4 : ℕ
+abbrev prime64_4 : ℕ
 prime64_4 = 0x85EBCA77C2B2AE63
 
-abbrev pub prime64_5 : ℕ
+abbrev prime64_5 : ℕ
 prime64_5 = 0x27D4EB2F165667C5
 
 abbrev pub xxh64_round : ℕ → ℕ → ℕ

@@ -33,7 +33,8 @@ abbrev after_middles : List Mark → List Mark
 after_middles (middle payload place ∷ marks) = after_middles marks
 after_middles marks = marks
 
--- the item of a mark before which no record is unfinished
+-- The item of a mark before which no record is unfinished. The case of a first one is never reached, since
+-- it leaves a record unfinished.
 abbrev pub alone : Mark → Item
 alone (full payload place) = rec payload place
 alone (first payload place) = gap MissingEnd place
@@ -45,7 +46,8 @@ alone (stale place) = end Stale place
 alone (unsupported kind place) = end (Unsupported kind) place
 alone (file_end place) = end Clean place
 
--- the item of an unfinished record, its payload so far and its place, and of the mark after it
+-- The item of an unfinished record, its payload so far and its place, and of the mark after it. The last
+-- case is never reached: a middle goes on with the record, and a full or a first one begins another.
 abbrev pub closed : List ℕ → ℕ → Mark → Item
 closed payload place (last more at) = rec (payload ++ more) place
 closed payload place (fault why at) = gap why at
@@ -57,6 +59,8 @@ closed payload place _ = gap MissingEnd place
 
 -- The marks, parted into items: a mark that isn't a first one alone; a first one, the middles after
 -- it and the mark that closes it; or a first one and its middles, where the next mark begins a record.
+-- This relation is what an item is. Of marks that end once it admits one list of items, `parting` (law
+-- `one_parting`).
 pub data Parts : List Mark → List Item → Type 0 where
   nothing : Parts [] []
   single : {mark : Mark} {rest : List Mark} {items : List Item} → is_first mark ≡ false → Parts rest items → Parts (mark ∷ rest) (alone mark ∷ items)

@@ -18,8 +18,8 @@ pub data Command : Type 0 where
   dump_wal : ℕ → Command
 
 -- The words are a spelling of the command.
-abbrev pub Spells : List (List ℕ) → Command → Type 0
-Spells words (dump_wal n) = (n < 2 ^ 64) × (words ≡ codes "dump_wal" ∷ decimal n ∷ [])
+abbrev pub SpellsCommand : List (List ℕ) → Command → Type 0
+SpellsCommand words (dump_wal n) = (n < 2 ^ 64) × (words ≡ codes "dump_wal" ∷ decimal n ∷ [])
 
 -- the number below 2 ^ 64 that the word is the decimal spelling of
 abbrev pub number_of : List ℕ → Option ℕ

@@ -11,19 +11,18 @@ use Rattle.rk_bytes.specs.declared.model.table.FooterFault.TheVariants.{FooterSh
 use Rattle.rk_bytes.specs.declared.model.table.TrailerFault.{TrailerFault}
 use Rattle.rk_bytes.specs.declared.model.table.TrailerFault.TheVariants.{OutOfFile, Checksum, Compressed}
 use Rattle.rk_bytes.specs.Model.Numbers.{little_endian, ◌>>=◌}
-use Rattle.rk_bytes.specs.Model.Checksums.{crc_bit, crc_bits, crc_bytes, crc32c}
+use Rattle.rk_bytes.specs.Model.Checksums.{crc_bit, crc_bits, crc_bytes, crc32c, block_sum}
 use Rattle.rk_bytes.specs.Model.BlockEntries.{with_fault, handle_at}
-use Rattle.rk_bytes.specs.Model.Checksums.{block_sum}
 
 -- the kind of checksum with this number
-abbrev pub sum_kind : ℕ → Result SumKind FooterFault
+abbrev sum_kind : ℕ → Result SumKind FooterFault
 sum_kind n =
     if n == 0 then Ok NoSum
     else (if n == 1 then Ok Crc32c
     else (if n == 2 then Ok Xxh32
     else (if n == 3 then Ok Xxh64 else Err (UnsupportedChecksum n))))
 
-abbrev pub legacy_magic : ℕ
+abbrev legacy_magic : ℕ
 legacy_magic = 0xdb4775248b80fb57
 
 abbrev pub newer_magic : ℕ
@@ -40,20 +39,20 @@ abbrev pub footer_start : List ℕ → ℕ
 footer_start table = length table - footer_len table
 
 -- The metaindex's handle and the index's, within 40 bytes. What follows them isn't looked at.
-abbrev pub footer_handles : List ℕ → Result (Handle × Handle) FooterFault
+abbrev footer_handles : List ℕ → Result (Handle × Handle) FooterFault
 footer_handles bytes = with_fault (λ fault. BadHandle) (do
   metaindex ← handle_at (take 40 bytes)
   index ← handle_at metaindex.1
   Ok (metaindex.0, index.0))
 
 -- a footer's parts, where its version and its checksum kind have passed
-abbrev pub footer_with : ℕ → SumKind → ℕ → List ℕ → Result Footer FooterFault
+abbrev footer_with : ℕ → SumKind → ℕ → List ℕ → Result Footer FooterFault
 footer_with version sum start bytes = do
   handles ← footer_handles bytes
   Ok (record { version = version; sum = sum; metaindex = handles.0; index = handles.1; start = start })
 
 -- The bytes of a newer footer are the checksum kind, 40 bytes of handles, the version and the magic number.
-abbrev pub newer_footer : ℕ → List ℕ → Result Footer FooterFault
+abbrev newer_footer : ℕ → List ℕ → Result Footer FooterFault
 newer_footer start bytes = let version = little_endian (take 4 (drop 41 bytes)) in
     if version == 0 || nat_lt 5 version then Err (UnsupportedVersion version)
     else do
@@ -69,7 +68,7 @@ footer_of table = let start = footer_start table in
     else Err BadMagic))
 
 -- The stored sum is that of the block and its type byte. Where blocks aren't summed it isn't looked at.
-abbrev pub has_sum : SumKind → ℕ → List ℕ → ℕ → Bool
+abbrev has_sum : SumKind → ℕ → List ℕ → ℕ → Bool
 has_sum NoSum stored block type_byte = true
 has_sum sum stored block type_byte = stored == block_sum sum block type_byte
 
@@ -105,6 +104,10 @@ version_before_checksum = refl
 with_a_byte_less : footer_of (drop 1 (newer 3 5)) ≡ Err FooterShort
 unfolding footer_of newer
 with_a_byte_less = refl
+
+place_of_a_newer_footer : footer_start (0 ∷ 0 ∷ newer 3 5) ≡ 2
+unfolding newer
+place_of_a_newer_footer = refl
 
 -- a block of one byte, with the type byte of Snappy
 checksum_before_compression : checked_block (7 ∷ 1 ∷ 0 ∷ 0 ∷ 0 ∷ 0 ∷ []) (record { offset = 0; size = 1 }) Crc32c ≡ Err Checksum

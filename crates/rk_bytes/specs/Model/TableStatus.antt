@@ -1,7 +1,7 @@
 -- Whether a table is good, damaged or not supported, and what it holds (RocksDB's wiki, "Rocksdb
 -- BlockBasedTable Format"; table/block_based/block_based_table_reader.cc, table/table_properties.cc).
 -- The tests and their order are this project's own rule.
-use Rattle.std.specs.Prelude.{◌≡◌, ℕ, ◌-◌, ◌^◌, ◌==◌, min, max, Bool, true, false, not, ◌&&◌, ◌||◌, List, [], ◌∷◌, ◌++◌, length, map, take, drop, find, fold, replicate, nat_lt, nat_le, if◌then◌else◌, Option, Some, None, is_some, option_map, unwrap_or, Result, Ok, Err, bytes_eq, codes, decimal, refl}
+use Rattle.std.specs.Prelude.{◌≡◌, ℕ, ◌+◌, ◌-◌, ◌^◌, ◌==◌, min, max, Bool, true, false, not, ◌&&◌, ◌||◌, List, [], ◌∷◌, ◌++◌, length, map, take, drop, find, fold, replicate, nat_lt, nat_le, if◌then◌else◌, Option, Some, None, is_some, option_map, unwrap_or, Result, Ok, Err, bytes_eq, codes, decimal, refl}
 use Rattle.std.specs.List.{list_all, last_or, reduce}
 use Rattle.std.specs.declared.cmp.Ordering.{Ordering}
 use Rattle.std.specs.Ordering.{nat_cmp, is_lt, is_gt}
@@ -17,7 +17,7 @@ use Rattle.rk_bytes.specs.declared.model.table.TrailerFault.TheVariants.{OutOfFi
 use Rattle.rk_bytes.specs.declared.model.block.BlockFault.{BlockFault}
 use Rattle.rk_bytes.specs.declared.model.block.BlockFault.TheVariants.{HashIndex}
 use Rattle.rk_bytes.specs.declared.model.block.IndexFault.{IndexFault}
-use Rattle.rk_bytes.specs.declared.model.block.IndexFault.TheVariants.{Block, BadHandle}
+use Rattle.rk_bytes.specs.declared.model.block.IndexFault.TheVariants.{Block}
 use Rattle.rk_bytes.specs.declared.model.block.RangeFault.{RangeFault}
 use Rattle.rk_bytes.specs.declared.model.block.RangeFault.TheVariants.{Block, BadKey}
 use Rattle.rk_bytes.specs.declared.model.key.Kind.{Kind}
@@ -60,13 +60,14 @@ abbrev pub block_status : ℕ → BlockFault → TableFault
 block_status place HashIndex = unsupported HashIndex
 block_status place _ = damaged Block place
 
+-- A definition gives no `Memory`, so the last case is that of `BadHandle`, and below that of `BadKey`.
 abbrev pub index_status : ℕ → IndexFault → TableFault
 index_status place (Block fault) = block_status place fault
-index_status place BadHandle = damaged BadHandle place
+index_status place _ = damaged BadHandle place
 
 abbrev pub range_status : ℕ → RangeFault → TableFault
 range_status place (Block fault) = block_status place fault
-range_status place BadKey = damaged BadKey place
+range_status place _ = damaged BadKey place
 
 -- What reads a table's block.
 abbrev pub BlockReader : Type 0
@@ -102,7 +103,7 @@ abbrev pub value_named : List ℕ → List Property → Option (List ℕ)
 value_named name properties = option_map (λ property. property.value) (find (λ property. bytes_eq property.name name) properties)
 
 -- the number that a value spells in this form
-abbrev pub number_in : (List ℕ → Read ℕ) → Option (List ℕ) → Option ℕ
+abbrev number_in : (List ℕ → Read ℕ) → Option (List ℕ) → Option ℕ
 number_in read None = Some 0
 number_in read (Some value) = whole (read value)
 
@@ -233,7 +234,7 @@ data_records block_of by_user before lower (at ∷ index) = do
   more ← data_records block_of by_user (last_key records) (Some at.separator) index
   Ok (records ++ more)
 
-abbrev pub record_in : ℕ → DataEntry → Record
+abbrev record_in : ℕ → DataEntry → Record
 record_in family entry = record { family = family; key = entry.parts.user; sequence = entry.parts.sequence; kind = entry.parts.kind; value = entry.value }
 
 -- the internal keys at a range deletion's ends
@@ -243,7 +244,7 @@ start_key range = internal_key range.start range.sequence RangeDeletion
 abbrev pub end_key : RangeDel → List ℕ
 end_key range = internal_key range.end top_sequence RangeDeletion
 
-abbrev pub lesser : List ℕ → List ℕ → List ℕ
+abbrev lesser : List ℕ → List ℕ → List ℕ
 lesser a b = if is_gt (key_cmp a b) then b else a
 
 abbrev pub greater : List ℕ → List ℕ → List ℕ
@@ -357,6 +358,36 @@ twice_the_same_key = refl
 above_the_separator : data_records (λ handle. Ok (take 21 data_part)) true None None (record { separator = []; block = record { offset = 0; size = 21 } } ∷ []) ≡ Err (damaged BadSeparator 0)
 unfolding block_entries entries_after data_part
 above_the_separator = refl
+
+-- a block of these entries with one restart, at 0
+one_restart : List ℕ → List ℕ
+one_restart entries = entries ++ 0 ∷ 0 ∷ 0 ∷ 0 ∷ 1 ∷ 0 ∷ 0 ∷ 0 ∷ []
+
+-- the records of a table whose only data block has these entries, at 3 and up to the separator `b`
+of_one_block : List ℕ → Result (List DataEntry) TableFault
+unfolding block_entries entries_after one_restart
+of_one_block entries = data_records (λ handle. Ok (one_restart entries)) true None None (record { separator = codes "b"; block = record { offset = 3; size = length entries + 8 } } ∷ [])
+
+-- an entry of a record with this number of a kind: `a` at sequence 1
+of_kind : ℕ → List ℕ
+of_kind number = 0 ∷ 9 ∷ 0 ∷ codes "a" ++ number ∷ 1 ∷ 0 ∷ 0 ∷ 0 ∷ 0 ∷ 0 ∷ 0 ∷ []
+
+of_an_unsupported_kind : of_one_block (of_kind 16) ≡ Err (unsupported (RecordKind 16))
+unfolding of_one_block of_kind
+of_an_unsupported_kind = refl
+
+of_a_range_deletion_among_records : of_one_block (of_kind 15) ≡ Err (damaged BadKey 3)
+unfolding of_one_block of_kind
+of_a_range_deletion_among_records = refl
+
+without_a_record : of_one_block [] ≡ Err (damaged BadSeparator 3)
+unfolding of_one_block
+without_a_record = refl
+
+-- another comparator, and a number without a value
+form_before_comparator : properties_at (λ handle. Ok (one_restart (0 ∷ 18 ∷ 0 ∷ codes "rocksdb.comparator" ++ 0 ∷ 19 ∷ 0 ∷ codes "rocksdb.num.entries"))) (record { offset = 9; size = 51 }) ≡ Err (damaged BadProperty 9)
+unfolding property_list block_entries entries_after one_restart
+form_before_comparator = refl
 
 without_a_name : family_name_of (record { name = codes "rocksdb.column.family.id"; value = 7 ∷ [] } ∷ []) ≡ codes "family-7"
 unfolding digits

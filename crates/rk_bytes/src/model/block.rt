@@ -21,6 +21,8 @@ pub enum IndexFault {
     Block(BlockFault),
     /// A value isn't a handle.
     BadHandle,
+    /// Want of memory, which no definition gives.
+    Memory,
 }
 
 /// Where a block stands in its file.
@@ -47,6 +49,8 @@ pub enum RangeFault {
     Block(BlockFault),
     /// A key isn't the internal key of a range deletion.
     BadKey,
+    /// Want of memory, which no definition gives.
+    Memory,
 }
 
 /// A property of a table.

@@ -35,6 +35,6 @@ pub struct Record {
     pub key: Bytes,
     pub sequence: u64,
     pub kind: Kind,
-    /// Empty for a deletion. The end of a range deletion.
+    /// Empty for a deletion in a batch. The end of a range deletion.
     pub value: Bytes,
 }

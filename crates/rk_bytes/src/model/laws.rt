@@ -13,7 +13,7 @@ ghost use Rattle.rk_bytes.specs.Model.LogItems.{Item, Parts, EndsOnce, parting};
 ghost use Rattle.rk_bytes.specs.Model.InternalKey.{internal_key, KeyParts, key_parts, key_cmp};
 ghost use Rattle.rk_bytes.specs.Model.Records.{Place, last_records, over, place_cmp};
 ghost use Rattle.rk_bytes.specs.Model.BlockEntries.{Entry, IsBlock, SpellsEntry, block_entries, SpellsDeltaEntry, no_handle, delta_handles};
-ghost use Rattle.rk_bytes.specs.Model.Output.{Command, Spells, command_of};
+ghost use Rattle.rk_bytes.specs.Model.Output.{Command, SpellsCommand, command_of};
 
 /// Law: a mask loses nothing of a sum.
 pub fn mask_round_trip()
@@ -76,5 +76,5 @@ pub fn one_delta_index()
 
 /// Law: the command of a list of words is the one that they spell, and there is at most one.
 pub fn one_command()
-    ensures { (words : List (List ℕ)) (command : Command) → (command_of words ≡ Some command) ↔ Spells words command }
+    ensures { (words : List (List ℕ)) (command : Command) → (command_of words ≡ Some command) ↔ SpellsCommand words command }
 {}

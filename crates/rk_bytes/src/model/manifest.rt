@@ -27,6 +27,8 @@ pub enum ApplyFault {
     AddPresent(u64),
     /// Two files of this family and this level above 0 overlap.
     Overlap { family: u32, level: u32 },
+    /// Want of memory, which no definition gives.
+    Memory,
 }
 
 /// Why an edit of a manifest is bad.
