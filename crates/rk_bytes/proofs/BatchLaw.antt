@@ -1,5 +1,5 @@
 -- A batch is read just where its bytes are it.
-use Rattle.std.proofs.Common.{◌≡◌, ℕ, zero, suc, ◌+◌, ◌-◌, ◌≤◌, Bool, false, not, cond, List, [], ◌∷◌, ◌++◌, length, take, drop, Result, Ok, refl, sym, ◌∙◌, ap, subst, arith}
+use Rattle.std.proofs.Common.{◌≡◌, ℕ, zero, suc, ◌+◌, ◌-◌, ◌≤◌, Bool, true, false, not, ◌||◌, cond, List, [], ◌∷◌, ◌++◌, length, take, drop, Result, Ok, refl, sym, ◌∙◌, ap, subst, arith}
 use Rattle.std.specs.Prelude.{◌==◌, nat_lt}
 use Rattle.std.proofs.lemmas.Bool.{eqb-true, eq-eqb, not-false, ltb-false, le-ltb}
 use Rattle.std.proofs.lemmas.List.{length-append, take-append-drop, length-take-le}
@@ -99,6 +99,10 @@ parts_after bytes parts are long e =
     let lens : length bytes ≡ 12 + length (drop 12 bytes) = omega (arith, ap length (take-append-drop 12 bytes), length-append (take 12 bytes) (drop 12 bytes)) in
     parts_ok (length bytes) (length bytes) (batch_sequence bytes) 12 (batch_sequence bytes) [] (drop 12 bytes) parts (bytes_after bytes (take 12 bytes) (drop 12 bytes) are (sym (take-append-drop 12 bytes))) (omega arith) lens (omega arith) e
 
+neither : (a b : Bool) → (a || b) ≡ false → (a ≡ false) × (b ≡ false)
+neither true b e = absurd cc
+neither false b e = (refl, e)
+
 pub batch_of_ok : (bytes : List ℕ) (batch : Batch) → AreBytes bytes → batch_of bytes ≡ Ok batch → IsBatch bytes batch
 unfolding batch_of
 batch_of_ok bytes batch are e =
@@ -106,8 +110,8 @@ batch_of_ok bytes batch are e =
     let long : 12 ≤ length bytes = ltb-false (length bytes) 12 long_enough.0 in
     both_steps (parts_after_header bytes) _ batch long_enough.1 λ parts read e1.
     let counted = passed (not (stated_count bytes == change_count parts)) _ _ batch e1 in
-    let below = passed (nat_lt top_sequence (batch_sequence bytes + (change_count parts - 1))) _ _ batch counted.1 in
-    let top : batch_sequence bytes + (change_count parts - 1) ≤ top_sequence = ltb-false top_sequence (batch_sequence bytes + (change_count parts - 1)) below.0 in
+    let below = passed (nat_lt top_sequence (batch_sequence bytes) || nat_lt (top_sequence + 1) (batch_sequence bytes + change_count parts)) _ _ batch counted.1 in
+    let tops = neither (nat_lt top_sequence (batch_sequence bytes)) (nat_lt (top_sequence + 1) (batch_sequence bytes + change_count parts)) below.0 in
     let same : record { sequence = batch_sequence bytes; parts = parts } ≡ batch = cc in
     subst (λ batch. IsBatch bytes batch) same (record {
       sequence_bytes = take 8 bytes;
@@ -117,8 +121,8 @@ batch_of_ok bytes batch are e =
       sequence = record { eight = length-take-le 8 bytes (omega arith); value = refl };
       count = record { four = length-take-le 4 (drop 8 bytes) (omega (arith, ap length (take-append-drop 8 bytes), length-append (take 8 bytes) (drop 8 bytes), length-take-le 8 bytes (omega arith))); value = sym (eqb-true (stated_count bytes) (change_count parts) (not-false _ counted.0)) };
       parts = parts_after bytes parts are long read;
-      below_top = omega arith;
-      last_below_top = omega arith;
+      below_top = ltb-false top_sequence (batch_sequence bytes) tops.0;
+      last_below_top = ltb-false (top_sequence + 1) (batch_sequence bytes + change_count parts) tops.1;
     })
 
 -- a test that isn't met refuses nothing
@@ -135,10 +139,13 @@ batch_of-batch bytes batch b =
     ap (λ sequence. in_turn (part_at (length bytes) sequence) (length bytes) [] (drop 12 bytes)) sequence_is
     ∙ ap (in_turn (part_at (length bytes) batch.sequence) (length bytes) []) h.parts_are
     ∙ parts-spelled (length bytes) (length bytes) batch.sequence 12 batch.sequence [] b.part_bytes batch.parts (omega (arith, h.long)) h.long (omega arith) b.parts in
-    let top : batch_sequence bytes + (change_count batch.parts - 1) ≤ top_sequence = omega (arith, b.below_top, b.last_below_top) in
+    let top : batch_sequence bytes ≤ top_sequence = omega (arith, b.below_top) in
+    let last_top : batch_sequence bytes + change_count batch.parts ≤ top_sequence + 1 = omega (arith, b.last_below_top) in
     let long : 12 ≤ length bytes = omega (arith, h.long) in
     refused_not (nat_lt (length bytes) 12) _ _ (le-ltb (length bytes) 12 long)
     ∙ first_step (parts_after_header bytes) _ _ read
     ∙ refused_not (not (stated_count bytes == change_count batch.parts)) _ _ (ap not (eq-eqb (stated_count bytes) (change_count batch.parts) counted))
-    ∙ refused_not (nat_lt top_sequence (batch_sequence bytes + (change_count batch.parts - 1))) _ _ (le-ltb top_sequence (batch_sequence bytes + (change_count batch.parts - 1)) top)
+    ∙ refused_not (nat_lt top_sequence (batch_sequence bytes) || nat_lt (top_sequence + 1) (batch_sequence bytes + change_count batch.parts)) _ _
+    (ap (λ a. a || nat_lt (top_sequence + 1) (batch_sequence bytes + change_count batch.parts)) (le-ltb top_sequence (batch_sequence bytes) top)
+    ∙ le-ltb (top_sequence + 1) (batch_sequence bytes + change_count batch.parts) last_top)
     ∙ ap (λ (n : ℕ). let r : Result Batch BatchFault = Ok (record { sequence = n; parts = batch.parts }) in r) sequence_is
