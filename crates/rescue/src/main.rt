@@ -8,7 +8,7 @@ mod stdout;
 
 use folder::FolderDisk;
 use rk_bytes::{Memory, Text};
-use rk_ldb::{Status, run};
+use rk_ldb::{Status, end_after_want_of_memory, run};
 use std::alloc::Global;
 use std::env;
 use std::io::ErrorKind;
@@ -19,7 +19,7 @@ use stdout::StdoutSink;
 fn main(rt: HostRuntime) -> ExitCode {
     let status = match run_arguments(&rt, rt.alloc()) {
         Ok(status) => status,
-        Err(Memory) => Status::Memory,
+        Err(Memory) => end_after_want_of_memory(&mut StdoutSink::new(&rt)),
     };
     ExitCode::from(status.exit_status())
 }

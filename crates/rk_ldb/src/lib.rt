@@ -7,7 +7,7 @@ mod log_dump;
 mod program;
 mod stop;
 
-pub use program::run;
+pub use program::{end_after_want_of_memory, run};
 pub use rk_bytes::model::Status;
 
 #[cfg(test)]

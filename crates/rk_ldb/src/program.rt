@@ -96,7 +96,8 @@ fn end_after_disk_fault<S: Sink>(out: &mut S) -> Status
 }
 
 /// Writes the line that ends the output after want of memory, where the output can still take it.
-fn end_after_want_of_memory<S: Sink>(out: &mut S) -> Status
+/// `run` does so by itself: this is for a program that had no memory to call it.
+pub fn end_after_want_of_memory<S: Sink>(out: &mut S) -> Status
     ensures status { result ≡ Status.Memory }
     ensures line { TookPart (S.taken out.old) (S.taken out.new) memory_fault_line (Unit {0}) }
 {
