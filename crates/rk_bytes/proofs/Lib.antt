@@ -6,6 +6,8 @@ pub mod RestartLemmas
 pub mod BlockLaw
 pub mod EntryLemmas
 pub mod DeltaLemmas
+pub mod Readers
+pub mod EditLemmas
 pub mod InTurn
 pub mod Varints
 pub mod Orders

@@ -1,12 +1,12 @@
 -- What a reading gives is what its bytes spell.
 use Rattle.std.specs.Prelude.{nat_lt, nat_le}
-use Rattle.std.proofs.Common.{◌≡◌, ℕ, suc, ◌+◌, ◌^◌, ◌<◌, ◌≤◌, Bool, true, false, cond, List, [], ◌∷◌, ◌++◌, length, take, drop, Result, Ok, Err, refl, sym, ◌∙◌, add-one, ap, subst, arith, inl, inr}
+use Rattle.std.proofs.Common.{◌≡◌, ℕ, suc, ◌+◌, ◌^◌, ◌<◌, ◌≤◌, Bool, true, false, cond, List, [], ◌∷◌, ◌++◌, length, take, drop, Result, Ok, Err, refl, sym, ◌∙◌, add-one, ap, subst, arith, inl, inr, append_assoc}
 use Rattle.std.specs.List.{AllByRecursion}
 use Rattle.std.proofs.lemmas.Bool.{lt-ltb, ltb-true, le-ltb, ltb-false, le-leb, lt-leb, cases_lt}
 use Rattle.std.proofs.lemmas.List.{take-append-drop, length-take-le, length-append}
 use Rattle.std.proofs.lemmas.List.Sums.{take_while-cons}
 use Rattle.std.proofs.Math.Seq.{take-append_seam, drop-append_seam}
-use Rattle.rk_bytes.specs.Model.Numbers.{◌>>=◌, part_of, high_count, groups_value, IsVarint, IsVarint32, IsVarint64, varint_at, varint32_at, varint64_at}
+use Rattle.rk_bytes.specs.Model.Numbers.{◌>>=◌, part_of, high_count, groups_value, IsVarint, IsVarint32, IsVarint64, IsPrefixed, varint_at, varint32_at, varint64_at, prefixed_at}
 use Rattle.rk_bytes.specs.Model.BlockEntries.{with_fault}
 
 -- where a reading of two steps gives a value, both do
@@ -142,3 +142,22 @@ varint64_ok bytes r are e =
 
 pub varint64-append : (part rest : List ℕ) (n : ℕ) → IsVarint64 part n → varint64_at (part ++ rest) ≡ Ok (n, rest)
 varint64-append part rest n v = varint_at-append 10 64 part rest n (record { groups = v.groups; short = v.short; fits = v.fits; value = v.value })
+
+pub prefixed_ok : (bytes : List ℕ) (r : List ℕ × List ℕ) → AreBytes bytes → prefixed_at bytes ≡ Ok r → (part : List ℕ) × (bytes ≡ part ++ r.1) × IsPrefixed part r.0 × AreBytes r.1
+prefixed_ok bytes r are e =
+    both_steps (varint32_at bytes) _ r e λ len len_read e1.
+    let (len_bytes, w, is_len, are1) = varint32_ok bytes len are len_read in
+    let (w1, same_len) = part_of_ok len.0 len.1 r e1 in
+    let whole : bytes ≡ (len_bytes ++ r.0) ++ r.1 = w ∙ ap (λ x. len_bytes ++ x) w1 ∙ sym (append_assoc len_bytes r.0 r.1) in (
+      len_bytes ++ r.0,
+      whole,
+      record { len_bytes = len_bytes; len = subst (λ n. IsVarint32 len_bytes n) (sym same_len) is_len; parts = refl },
+      bytes_after bytes (len_bytes ++ r.0) r.1 are whole,
+    )
+
+pub prefixed-append : (part rest slice : List ℕ) → IsPrefixed part slice → prefixed_at (part ++ rest) ≡ Ok (slice, rest)
+prefixed-append part rest slice p =
+    let whole : part ++ rest ≡ p.len_bytes ++ (slice ++ rest) = ap (λ x. x ++ rest) p.parts ∙ append_assoc p.len_bytes slice rest in
+    ap prefixed_at whole
+    ∙ first_step (varint32_at (p.len_bytes ++ (slice ++ rest))) _ _ (varint32-append p.len_bytes (slice ++ rest) (length slice) p.len)
+    ∙ part_of-append slice rest

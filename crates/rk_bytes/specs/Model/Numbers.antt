@@ -1,5 +1,4 @@
--- Numbers of the formats (util/coding.h): fixed integers, varints and length-prefixed slices. Which fault
--- wins where two hold is this project's own rule.
+-- Numbers of the formats (util/coding.h): fixed integers, varints and length-prefixed slices.
 use Rattle.std.specs.Prelude.{◌≡◌, ℕ, zero, suc, ◌+◌, ◌*◌, ◌/◌, ◌%◌, ◌^◌, ◌<◌, ◌≤◌, ℤ, pos, negsuc, List, [], ◌∷◌, ◌++◌, length, take, drop, take_while, nat_lt, nat_le, ◌==◌, if◌then◌else◌, Result, Ok, Err, refl}
 use Rattle.rk_bytes.specs.declared.model.number.NumFault.{NumFault}
 use Rattle.rk_bytes.specs.declared.model.number.NumFault.TheVariants.{Cut, TooLarge}
@@ -41,6 +40,12 @@ pub record IsVarint64 (bytes : List ℕ) (n : ℕ) : Type 0 where
   pub short : length bytes ≤ 10
   pub fits : n < 2 ^ 64
   pub value : n ≡ groups_value bytes
+
+-- the bytes are this slice, after its length
+pub record IsPrefixed (bytes slice : List ℕ) : Type 0 where
+  pub len_bytes : List ℕ
+  pub len : IsVarint32 len_bytes (length slice)
+  pub parts : bytes ≡ len_bytes ++ slice
 
 -- What the writers write: so many little-endian bytes, the shortest varint, a slice after its length.
 abbrev pub fixed_of : ℕ → ℕ → List ℕ

@@ -13,6 +13,7 @@ ghost use Rattle.rk_bytes.specs.Model.LogItems.{Item, Parts, EndsOnce, parting};
 ghost use Rattle.rk_bytes.specs.Model.InternalKey.{internal_key, KeyParts, key_parts, key_cmp};
 ghost use Rattle.rk_bytes.specs.Model.Records.{Place, last_records, over, place_cmp};
 ghost use Rattle.rk_bytes.specs.Model.BlockEntries.{Entry, IsBlock, SpellsEntry, block_entries, SpellsDeltaEntry, no_handle, delta_handles};
+ghost use Rattle.rk_bytes.specs.Model.VersionEdit.{Field, IsEdit, edit_fields};
 ghost use Rattle.rk_bytes.specs.Model.Output.{Command, Spells, command_of};
 
 /// Law: a mask loses nothing of a sum.
@@ -72,6 +73,13 @@ pub fn one_block()
 pub fn one_delta_index()
     ensures read { (block : List ℕ) (entries : List (Entry Handle)) → AllByRecursion (λ b. b < 2 ^ 8) block → (delta_handles block ≡ Ok entries) ↔ IsBlock SpellsDeltaEntry no_handle block entries }
     ensures unique { (block : List ℕ) (entries others : List (Entry Handle)) → IsBlock SpellsDeltaEntry no_handle block entries → IsBlock SpellsDeltaEntry no_handle block others → others ≡ entries }
+{}
+
+/// Law: the fields that are read of an edit are those that its bytes spell, and there is at most one
+/// list of them.
+pub fn one_edit()
+    ensures read { (bytes : List ℕ) (fields : List Field) → AllByRecursion (λ b. b < 2 ^ 8) bytes → (edit_fields bytes ≡ Ok fields) ↔ IsEdit bytes fields }
+    ensures unique { (bytes : List ℕ) (fields others : List Field) → IsEdit bytes fields → IsEdit bytes others → others ≡ fields }
 {}
 
 /// Law: the command of a list of words is the one that they spell, and there is at most one.
