@@ -8,6 +8,8 @@ pub mod EntryLemmas
 pub mod DeltaLemmas
 pub mod BatchLemmas
 pub mod BatchLaw
+pub mod Readers
+pub mod EditLemmas
 pub mod InTurn
 pub mod Varints
 pub mod Orders

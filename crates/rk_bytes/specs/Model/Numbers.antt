@@ -1,5 +1,4 @@
--- Numbers of the formats (util/coding.h): fixed integers, varints and length-prefixed slices. Which fault
--- wins where two hold is this project's own rule.
+-- Numbers of the formats (util/coding.h): fixed integers, varints and length-prefixed slices.
 use Rattle.std.specs.Prelude.{◌≡◌, ℕ, zero, suc, ◌+◌, ◌*◌, ◌/◌, ◌%◌, ◌^◌, ◌<◌, ◌≤◌, ℤ, pos, negsuc, List, [], ◌∷◌, ◌++◌, length, take, drop, take_while, nat_lt, nat_le, ◌==◌, if◌then◌else◌, Result, Ok, Err, refl}
 use Rattle.rk_bytes.specs.declared.model.number.NumFault.{NumFault}
 use Rattle.rk_bytes.specs.declared.model.number.NumFault.TheVariants.{Cut, TooLarge}

@@ -1,13 +1,13 @@
 -- Version edits: what a record of a manifest changes (db/version_edit.cc). The order of the tests, the
 -- bounds, which tags are refused, and that any other tag with bit 8192 has a slice and is passed over, are
 -- this project's own rules.
-use Rattle.std.specs.Prelude.{◌≡◌, ℕ, ◌-◌, ◌/◌, ◌%◌, zero, suc, Bool, true, false, not, ◌&&◌, ◌||◌, List, [], ◌∷◌, ◌++◌, length, find, slice_index, nat_le, ◌==◌, if◌then◌else◌, Option, Some, None, option_map, is_some, Result, Ok, Err, codes, refl}
+use Rattle.std.specs.Prelude.{◌≡◌, ◌≢◌, ◌⊎◌, ℕ, ◌-◌, ◌/◌, ◌%◌, ◌≤◌, zero, suc, Bool, true, false, not, ◌&&◌, ◌||◌, List, [], ◌∷◌, ◌++◌, length, find, slice_index, nat_le, ◌==◌, if◌then◌else◌, Option, Some, None, option_map, is_some, Result, Ok, Err, codes, refl}
 use Rattle.std.specs.List.{list_any}
 use Rattle.rk_bytes.specs.declared.model.number.NumFault.TheVariants.{Cut, TooLarge}
 use Rattle.rk_bytes.specs.declared.model.edit.Seqs.{Seqs}
 use Rattle.rk_bytes.specs.declared.model.edit.EditFault.{EditFault}
 use Rattle.rk_bytes.specs.declared.model.edit.EditFault.TheVariants.{UnknownTag, UnsupportedTag, BadField}
-use Rattle.rk_bytes.specs.Model.Numbers.{Read, ◌>>=◌, varint32_at, varint64_at, prefixed_at, reads_or, in_turn}
+use Rattle.rk_bytes.specs.Model.Numbers.{IsVarint32, IsVarint64, IsPrefixed, Read, ◌>>=◌, varint32_at, varint64_at, prefixed_at, reads_or, in_turn}
 use Rattle.rk_bytes.specs.Model.InternalKey.{top_sequence}
 
 -- an added file: its bounds are internal keys, and its sequence numbers may be stated
@@ -207,6 +207,93 @@ field_at edit_len before bytes =
 -- The fields of the edit that the bytes are, or the first fault.
 unfoldable pub edit_fields : List ℕ → Result (List Field) EditFault
 edit_fields bytes = in_turn (field_at (length bytes)) (length bytes) [] bytes
+
+-- The same without reading: the bytes of a level, and of a compact cursor's or a file's internal key.
+abbrev pub SpellsLevel : List ℕ → ℕ → Type 0
+SpellsLevel bytes level = IsVarint32 bytes level × (level ≤ 255)
+
+abbrev pub SpellsBound : List ℕ → List ℕ → Type 0
+SpellsBound bytes key = IsPrefixed bytes key × (8 ≤ length key)
+
+-- The bytes are an added file's level, number, size and bounds.
+pub record SpellsFile (bytes : List ℕ) (file : NewFile) : Type 0 where
+  pub level_bytes : List ℕ
+  pub number_bytes : List ℕ
+  pub size_bytes : List ℕ
+  pub smallest_bytes : List ℕ
+  pub largest_bytes : List ℕ
+  pub spelled : bytes ≡ level_bytes ++ (number_bytes ++ (size_bytes ++ (smallest_bytes ++ largest_bytes)))
+  pub level : SpellsLevel level_bytes file.level
+  pub number : IsVarint64 number_bytes file.number
+  pub size : IsVarint64 size_bytes file.size
+  pub smallest : SpellsBound smallest_bytes file.smallest
+  pub largest : SpellsBound largest_bytes file.largest
+
+-- and its sequence numbers
+pub record SpellsSequencedFile (bytes : List ℕ) (file : NewFile) : Type 0 where
+  pub file_bytes : List ℕ
+  pub least_bytes : List ℕ
+  pub greatest_bytes : List ℕ
+  pub numbers : Seqs
+  pub spelled : bytes ≡ file_bytes ++ (least_bytes ++ greatest_bytes)
+  pub parts : SpellsFile file_bytes file
+  pub stated : file.seqs ≡ Some numbers
+  pub least : IsVarint64 least_bytes numbers.least
+  pub greatest : IsVarint64 greatest_bytes numbers.greatest
+
+-- A custom field that may be passed over: a path's id that is 0, or any other whose tag has no bit 64.
+abbrev pub MayPass : ℕ → List ℕ → Type 0
+MayPass tag value = (tag ≡ 65) × (value ≡ 0 ∷ []) ⊎ (tag / 64 % 2 ≡ 0)
+
+-- The bytes are custom fields of an added file, each a tag and a slice, and the tag 1 that ends them.
+pub data SpellsCustoms : List ℕ → Type 0 where
+  no_custom : {bytes : List ℕ} → IsVarint32 bytes 1 → SpellsCustoms bytes
+  one_custom : {bytes tag_bytes value_bytes rest value : List ℕ} {tag : ℕ} → bytes ≡ tag_bytes ++ (value_bytes ++ rest) → IsVarint32 tag_bytes tag → tag ≢ 1 → IsPrefixed value_bytes value → MayPass tag value → SpellsCustoms rest → SpellsCustoms bytes
+
+-- The bytes after an added file's tag, in each of the three forms.
+abbrev pub SpellsAddedFile : ℕ → List ℕ → NewFile → Type 0
+SpellsAddedFile tag bytes file =
+    (tag ≡ 7) × SpellsFile bytes file × (file.seqs ≡ None)
+    ⊎ (tag ≡ 100) × SpellsSequencedFile bytes file
+    ⊎ (tag ≡ 103) × (front : List ℕ) × (customs : List ℕ) × (bytes ≡ front ++ customs) × SpellsSequencedFile front file × SpellsCustoms customs
+
+-- The tag is this field's, and the bytes are its value. An ignored field's tag is one with bit 8192, and
+-- so none of those before it, that isn't refused.
+abbrev pub SpellsValue : ℕ → List ℕ → Field → Type 0
+SpellsValue tag bytes (comparator name) = (tag ≡ 1) × IsPrefixed bytes name
+SpellsValue tag bytes (log_number n) = (tag ≡ 2) × IsVarint64 bytes n
+SpellsValue tag bytes (next_file n) = (tag ≡ 3) × IsVarint64 bytes n
+SpellsValue tag bytes (last_sequence n) = (tag ≡ 4) × IsVarint64 bytes n × (n ≤ top_sequence)
+SpellsValue tag bytes (compact_cursor level key) = (tag ≡ 5) × (front : List ℕ) × (back : List ℕ) × (bytes ≡ front ++ back) × SpellsLevel front level × SpellsBound back key
+SpellsValue tag bytes (delete_file level number) = (tag ≡ 6) × (front : List ℕ) × (back : List ℕ) × (bytes ≡ front ++ back) × SpellsLevel front level × IsVarint64 back number
+SpellsValue tag bytes (add_file file) = SpellsAddedFile tag bytes file
+SpellsValue tag bytes (previous_log n) = (tag ≡ 9) × IsVarint64 bytes n
+SpellsValue tag bytes (least_log n) = (tag ≡ 10) × IsVarint64 bytes n
+SpellsValue tag bytes (family id) = (tag ≡ 200) × IsVarint32 bytes id
+SpellsValue tag bytes (family_add name) = (tag ≡ 201) × IsPrefixed bytes name
+SpellsValue tag bytes family_drop = (tag ≡ 202) × (bytes ≡ [])
+SpellsValue tag bytes (greatest_family id) = (tag ≡ 203) × IsVarint32 bytes id
+SpellsValue tag bytes (group left) = (tag ≡ 300) × IsVarint32 bytes left
+SpellsValue tag bytes (ignored own value) = (tag ≡ own) × (own / 8192 % 2 ≡ 1) × (is_unsupported_tag own ≡ false) × IsPrefixed bytes value
+
+-- The bytes are a field: its tag and its value. It doesn't clash with the fields before it.
+pub record SpellsField (before : List Field) (bytes : List ℕ) (field : Field) : Type 0 where
+  pub tag : ℕ
+  pub tag_bytes : List ℕ
+  pub value_bytes : List ℕ
+  pub spelled : bytes ≡ tag_bytes ++ value_bytes
+  pub tag_is : IsVarint32 tag_bytes tag
+  pub value : SpellsValue tag value_bytes field
+  pub apart : clashes tag before ≡ false
+
+-- The bytes are these fields, one after another, after others.
+abbrev pub SpellsFields : List Field → List ℕ → List Field → Type 0
+SpellsFields before bytes [] = bytes ≡ []
+SpellsFields before bytes (field ∷ fields) = (spelled : List ℕ) × (rest : List ℕ) × (bytes ≡ spelled ++ rest) × SpellsField before spelled field × SpellsFields (field ∷ before) rest fields
+
+-- The bytes are an edit of these fields.
+abbrev pub IsEdit : List ℕ → List Field → Type 0
+IsEdit bytes fields = SpellsFields [] bytes fields
 
 of_a_first_edit : edit_fields (1 ∷ 26 ∷ codes "leveldb.BytewiseComparator" ++ 2 ∷ 3 ∷ 3 ∷ 4 ∷ 4 ∷ 0 ∷ [])
     ≡ Ok (comparator (codes "leveldb.BytewiseComparator") ∷ log_number 3 ∷ next_file 4 ∷ last_sequence 0 ∷ [])

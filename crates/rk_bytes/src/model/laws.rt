@@ -14,6 +14,7 @@ ghost use Rattle.rk_bytes.specs.Model.InternalKey.{internal_key, KeyParts, key_p
 ghost use Rattle.rk_bytes.specs.Model.WriteBatch.{Batch, IsBatch, batch_of};
 ghost use Rattle.rk_bytes.specs.Model.Records.{Place, last_records, over, place_cmp};
 ghost use Rattle.rk_bytes.specs.Model.BlockEntries.{Entry, IsBlock, SpellsEntry, block_entries, SpellsDeltaEntry, no_handle, delta_handles};
+ghost use Rattle.rk_bytes.specs.Model.VersionEdit.{Field, IsEdit, edit_fields};
 ghost use Rattle.rk_bytes.specs.Model.Output.{Command, SpellsCommand, command_of};
 
 /// Law: a mask loses nothing of a sum.
@@ -87,6 +88,13 @@ pub fn one_delta_index()
 pub fn one_batch()
     ensures read { (bytes : List ℕ) (batch : Batch) → AllByRecursion (λ b. b < 2 ^ 8) bytes → (batch_of bytes ≡ Ok batch) ↔ IsBatch bytes batch }
     ensures unique { (bytes : List ℕ) (batch other : Batch) → IsBatch bytes batch → IsBatch bytes other → other ≡ batch }
+{}
+
+/// Law: the fields that are read of an edit are those that its bytes spell, and there is at most one
+/// list of them.
+pub fn one_edit()
+    ensures read { (bytes : List ℕ) (fields : List Field) → AllByRecursion (λ b. b < 2 ^ 8) bytes → (edit_fields bytes ≡ Ok fields) ↔ IsEdit bytes fields }
+    ensures unique { (bytes : List ℕ) (fields others : List Field) → IsEdit bytes fields → IsEdit bytes others → others ≡ fields }
 {}
 
 /// Law: the command of a list of words is the one that they spell, and there is at most one.
