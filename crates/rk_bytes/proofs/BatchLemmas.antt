@@ -10,11 +10,8 @@ use Rattle.rk_bytes.specs.declared.model.batch.BatchFault.TheVariants.{BadRecord
 use Rattle.rk_bytes.specs.Model.Numbers.{Read, IsPrefixed, varint32_at, prefixed_at, reads_or}
 use Rattle.rk_bytes.specs.Model.InternalKey.{all_kinds}
 use Rattle.rk_bytes.specs.Model.WriteBatch.{Part, change, log_bytes, noop, plain_tag, family_tag, kind_of_tag, names_family, is_unsupported_tag, family_at, value_at, change_at, log_bytes_at, part_of_tag, SpellsFamily, SpellsValue, SpellsChange, SpellsPart}
+use Rattle.rk_bytes.proofs.Readers.{reads_or_ok}
 use Rattle.rk_bytes.proofs.ReadingLemmas.{both_steps, first_step, passed, AreBytes, varint32_ok, varint32-append, prefixed_ok, prefixed-append}
-
-reads_or_ok : {A F : Type 0} (fault : F) (read : Read A) (r : A × List ℕ) → reads_or fault read ≡ Ok r → read ≡ Ok r
-reads_or_ok fault (Ok one) r e = cc
-reads_or_ok fault (Err why) r e = absurd cc
 
 either_true : (a b : Bool) → (a || b) ≡ true → (a ≡ true) ⊎ (b ≡ true)
 either_true true b e = inl refl

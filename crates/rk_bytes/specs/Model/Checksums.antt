@@ -172,13 +172,9 @@ check_value = refl
 masked_check_value : mask 0xE3069283 ≡ 0xC78AB0E5
 masked_check_value = refl
 
-of_zeros : crc32c (replicate 32 0) ≡ 0x8A9136AA
+of_runs : map crc32c ([] ∷ replicate 32 0 ∷ replicate 32 0xFF ∷ []) ≡ 0 ∷ 0x8A9136AA ∷ 0x62A8AB43 ∷ []
 unfolding crc32c crc_bytes crc_bits crc_bit
-of_zeros = refl
-
-of_ones : crc32c (replicate 32 0xFF) ≡ 0x62A8AB43
-unfolding crc32c crc_bytes crc_bits crc_bit
-of_ones = refl
+of_runs = refl
 
 unmasked_check_value : unmask 0xC78AB0E5 ≡ 0xE3069283
 unmasked_check_value = refl
