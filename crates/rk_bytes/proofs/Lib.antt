@@ -1,16 +1,2 @@
-pub mod PartingLemmas
+-- Lemmas that the proofs of callers cite.
 pub mod CommandLemmas
-pub mod ReadingLemmas
-pub mod BlockLemmas
-pub mod RestartLemmas
-pub mod BlockLaw
-pub mod EntryLemmas
-pub mod DeltaLemmas
-pub mod BatchLemmas
-pub mod BatchLaw
-pub mod Readers
-pub mod EditLemmas
-pub mod InTurn
-pub mod Varints
-pub mod Orders
-pub mod RecordMaps

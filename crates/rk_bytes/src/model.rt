@@ -1,31 +1,36 @@
 //! The definitions of RocksDB's formats. They stand in `specs/Model`, over plain lists and numbers;
-//! here are the types that they share with the code, and the laws that hold of them.
+//! here are the types that they share with the code. Laws of them are in the crate `rk_laws`.
 
 mod batch;
 mod block;
+mod command;
 mod edit;
 mod key;
-mod laws;
 mod log;
 mod manifest;
 mod name;
 mod number;
+mod open;
+mod salvage;
 mod status;
 mod table;
+mod view;
+mod wal;
 
 pub use batch::BatchFault;
 pub use block::{BlockFault, Handle, IndexEntry, IndexFault, Property, RangeDel, RangeFault};
+pub use command::{How, SstPart};
 pub use edit::{EditFault, Seqs};
 pub use key::{KeyFault, Kind, Record};
-pub use laws::{
-    crc32c_of_appended, key_order, key_round_trip, last_of_appended, mask_round_trip, one_block,
-    one_command, one_delta_index, one_parting, place_order, varint_round_trip,
-};
 pub use log::{EndKind, GapWhy};
 pub use manifest::{
-    ApplyFault, EditWhy, FamilyState, FileMeta, ManifestFault, ManifestWhy, Version, Which,
+    ApplyFault, EditWhy, FamilyState, FileMeta, ManifestFault, ManifestWhy, Tracked, Version, Which,
 };
 pub use name::{CurrentFault, FileName};
 pub use number::NumFault;
+pub use open::OpenErr;
+pub use salvage::{FamilyName, SurveyErr};
 pub use status::Status;
 pub use table::{Footer, FooterFault, SumKind, TableRef, TableWhat, TableWhy, TrailerFault};
+pub use view::{Cut, FamilyLine, Point, Tomb};
+pub use wal::{LogWhat, Mode, WalErr, WalWhy};

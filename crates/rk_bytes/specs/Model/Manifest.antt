@@ -90,6 +90,7 @@ first_version = record {
   last_sequence = None;
   least_log = 0;
   greatest_family = 0;
+  wals = [];
 }
 
 -- Steps in order, up to the first that is refused.
@@ -152,7 +153,7 @@ delete_step id deleted version =
     else Err (DeleteAbsent deleted.1)
 
 abbrev pub file_meta : NewFile → FileMeta
-file_meta new = record { number = new.number; level = new.level; size = new.size; smallest = new.smallest; largest = new.largest }
+file_meta new = record { number = new.number; level = new.level; size = new.size; smallest = new.smallest; largest = new.largest; seqs = new.seqs }
 
 abbrev pub add_meta : FileMeta → List FileMeta → List FileMeta
 add_meta new files = filter (λ file. nat_lt file.number new.number) files ++ new ∷ filter (λ file. nat_lt new.number file.number) files
@@ -182,6 +183,7 @@ with_numbers edit version =
       last_sequence = option_or (stated last_sequence_in edit) version.last_sequence;
       least_log = risen version.least_log (stated least_log_in edit);
       greatest_family = risen version.greatest_family (stated greatest_family_in edit);
+      wals = version.wals;
     }
 
 unfoldable pub edit_step : List Field → Version → Result Version ApplyFault
@@ -298,6 +300,7 @@ of_a_new_database : last_version (units_of_items (logged (first_edit ∷ []))) �
   last_sequence = Some 0;
   least_log = 0;
   greatest_family = 0;
+  wals = [];
 })
 unfolding logged first_edit units_from edits_of fault_after edit_fields in_turn each edit_step overlap unit_step version_after
 of_a_new_database = refl

@@ -1,7 +1,12 @@
 -- Numbers of the formats (util/coding.h): fixed integers, varints and length-prefixed slices.
 use Rattle.std.specs.Prelude.{◌≡◌, ℕ, zero, suc, ◌+◌, ◌*◌, ◌/◌, ◌%◌, ◌^◌, ◌<◌, ◌≤◌, ℤ, pos, negsuc, List, [], ◌∷◌, ◌++◌, length, take, drop, take_while, nat_lt, nat_le, ◌==◌, if◌then◌else◌, Result, Ok, Err, refl}
+use Rattle.std.specs.List.{AllByRecursion}
 use Rattle.rk_bytes.specs.declared.model.number.NumFault.{NumFault}
 use Rattle.rk_bytes.specs.declared.model.number.NumFault.TheVariants.{Cut, TooLarge}
+
+-- each number of the list is that of a byte
+abbrev pub AreBytes : List ℕ → Type 0
+AreBytes numbers = AllByRecursion (λ n. n < 2 ^ 8) numbers
 
 -- the number that bytes spell, the least significant first
 abbrev pub little_endian : List ℕ → ℕ

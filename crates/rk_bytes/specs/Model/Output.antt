@@ -8,7 +8,7 @@ use Rattle.rk_bytes.specs.declared.model.log.GapWhy.TheVariants.{Checksum, Lengt
 use Rattle.rk_bytes.specs.declared.model.log.EndKind.{EndKind}
 use Rattle.rk_bytes.specs.declared.model.log.EndKind.TheVariants.{Clean, Torn, Stale, Unsupported}
 use Rattle.rk_bytes.specs.declared.model.status.Status.{Status}
-use Rattle.rk_bytes.specs.declared.model.status.Status.TheVariants.{Done, Refused, Usage, DiskFault, SinkFault, Memory}
+use Rattle.rk_bytes.specs.declared.model.status.Status.TheVariants.{Done, Refused, Usage, DiskFault, SinkFault, Memory, NotFound}
 use Rattle.rk_bytes.specs.Model.DiskImages.{Directory}
 use Rattle.rk_bytes.specs.Model.FileNames.{log_name}
 use Rattle.rk_bytes.specs.Model.LogMarks.{blocks_marks, block_len, log_marks}
@@ -83,6 +83,7 @@ exit_status Usage = 2
 exit_status DiskFault = 3
 exit_status SinkFault = 4
 exit_status Memory = 5
+exit_status NotFound = 6
 
 abbrev pub dump_wal_output : ℕ → Option (List ℕ) → Output
 dump_wal_output n None = record { lines = no_log_line n ∷ []; status = Refused }

@@ -1,5 +1,5 @@
 //! What a manifest says, and why it can't be used.
-use super::edit::EditFault;
+use super::edit::{EditFault, Seqs};
 use super::log::GapWhy;
 use crate::{Bytes, Seq};
 
@@ -72,6 +72,17 @@ pub struct FileMeta {
     pub smallest: Bytes,
     /// The stated upper bound, an internal key.
     pub largest: Bytes,
+    /// The sequence numbers, where the edit that added the table stated them.
+    pub seqs: Option<Seqs>,
+}
+
+/// A log that has to be there, as the manifest says.
+#[derive(Clone, Copy, Debug, PartialEq, Eq)]
+pub struct Tracked {
+    /// The log's number.
+    pub log: u64,
+    /// How many of its bytes were synced, in bytes, where an edit stated it.
+    pub synced: Option<u64>,
 }
 
 /// A live column family.
@@ -98,4 +109,6 @@ pub struct Version {
     pub least_log: u64,
     /// The greatest family id that an edit stated.
     pub greatest_family: u32,
+    /// The logs that are tracked, in rising number.
+    pub wals: Seq<Tracked>,
 }

@@ -17,6 +17,8 @@ pub enum Status {
     SinkFault,
     /// Memory ran out.
     Memory,
+    /// The key that was asked for isn't there.
+    NotFound,
 }
 
 impl Status {

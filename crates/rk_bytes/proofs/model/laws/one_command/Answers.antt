@@ -1,5 +1,0 @@
-use Rattle.rk_bytes.proofs.CommandLemmas.{command_of-SpellsCommand}
-use Rattle.rk_bytes.proofs.model.laws.one_command.Goals as goal
-
-pub returns : goal.returns
-returns c = command_of-SpellsCommand

@@ -1,0 +1,15 @@
+mod BatchLaw
+mod BatchLemmas
+mod BlockLaw
+mod BlockLemmas
+mod DeltaLemmas
+mod EditLemmas
+mod EntryLemmas
+mod InTurn
+mod Orders
+mod PartingLemmas
+mod Readers
+mod ReadingLemmas
+mod RecordMaps
+mod RestartLemmas
+mod Varints

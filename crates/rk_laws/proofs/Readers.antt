@@ -1,0 +1,125 @@
+-- Readers that give just what is spelled, and how they are put together.
+use Rattle.std.proofs.Common.{◌≡◌, ℕ, Bool, true, false, cond, List, ◌++◌, Result, Ok, Err, refl, sym, ◌∙◌, ap, subst, append_assoc}
+use Rattle.std.proofs.lemmas.Bool.{cond-true, cond-false}
+use Rattle.rk_bytes.specs.Model.Numbers.{AreBytes, Read, ◌>>=◌, IsVarint32, IsVarint64, IsPrefixed, varint32_at, varint64_at, prefixed_at, reads_or}
+use Rattle.rk_laws.proofs.ReadingLemmas.{both_steps, first_step, passed, taken, varint32_ok, varint32-append, varint64_ok, varint64-append, prefixed_ok, prefixed-append}
+
+-- the bytes that spell what was read, and those after it
+pub record Front {A : Type 0} (Spells : List ℕ → A → Type 0) (bytes : List ℕ) (r : A × List ℕ) : Type 0 where
+  pub part : List ℕ
+  pub whole : bytes ≡ part ++ r.1
+  pub spells : Spells part r.0
+  pub after : AreBytes r.1
+
+-- What is read is spelled, and what is spelled is read.
+pub record Exact {A F : Type 0} (read : List ℕ → Result (A × List ℕ) F) (Spells : List ℕ → A → Type 0) : Type 0 where
+  pub reads : (bytes : List ℕ) (r : A × List ℕ) → AreBytes bytes → read bytes ≡ Ok r → Front Spells bytes r
+  pub spelled : (part rest : List ℕ) (x : A) → Spells part x → read (part ++ rest) ≡ Ok (x, rest)
+
+pub front_as : {A : Type 0} (S T : List ℕ → A → Type 0) (bytes : List ℕ) (r : A × List ℕ) → ((part : List ℕ) (x : A) → S part x → T part x) → Front S bytes r → Front T bytes r
+front_as S T bytes r to f = record { part = f.part; whole = f.whole; spells = to f.part r.0 f.spells; after = f.after }
+
+pub exact_varint32 : Exact varint32_at IsVarint32
+exact_varint32 = record {
+  reads = λ bytes r are e. let (part, whole, is, after) = varint32_ok bytes r are e in record { part = part; whole = whole; spells = is; after = after };
+  spelled = varint32-append;
+}
+
+pub exact_varint64 : Exact varint64_at IsVarint64
+exact_varint64 = record {
+  reads = λ bytes r are e. let (part, whole, is, after) = varint64_ok bytes r are e in record { part = part; whole = whole; spells = is; after = after };
+  spelled = varint64-append;
+}
+
+pub exact_prefixed : Exact prefixed_at IsPrefixed
+exact_prefixed = record {
+  reads = λ bytes r are e. let (part, whole, is, after) = prefixed_ok bytes r are e in record { part = part; whole = whole; spells = is; after = after };
+  spelled = prefixed-append;
+}
+
+pub reads_or_ok : {A F : Type 0} (fault : F) (read : Read A) (r : A × List ℕ) → reads_or fault read ≡ Ok r → read ≡ Ok r
+reads_or_ok fault (Ok one) r e = cc
+reads_or_ok fault (Err why) r e = absurd cc
+
+-- with another fault
+pub exact_or : {A F : Type 0} (fault : F) (read : List ℕ → Read A) (S : List ℕ → A → Type 0) → Exact read S → Exact (λ bytes. reads_or fault (read bytes)) S
+exact_or fault read S x = record {
+  reads = λ bytes r are e. x.reads bytes r are (reads_or_ok fault (read bytes) r e);
+  spelled = λ part rest a s. ap (reads_or fault) (x.spelled part rest a s);
+}
+
+-- under another relation that says the same
+pub exact_as : {A F : Type 0} (read : List ℕ → Result (A × List ℕ) F) (S T : List ℕ → A → Type 0) → Exact read S → ((part : List ℕ) (x : A) → S part x → T part x) → ((part : List ℕ) (x : A) → T part x → S part x) → Exact read T
+exact_as read S T x to from = record {
+  reads = λ bytes r are e. front_as S T bytes r to (x.reads bytes r are e);
+  spelled = λ part rest a t. x.spelled part rest a (from part a t);
+}
+
+-- one thing after another, the second by what the first is
+pub record Both {A B : Type 0} (S : List ℕ → A → Type 0) (T : A → List ℕ → B → Type 0) (bytes : List ℕ) (b : B) : Type 0 where
+  pub one : A
+  pub front : List ℕ
+  pub back : List ℕ
+  pub whole : bytes ≡ front ++ back
+  pub first : S front one
+  pub second : T one back b
+
+pub exact_then : {A B F : Type 0} (first : List ℕ → Result (A × List ℕ) F) (second : A → List ℕ → Result (B × List ℕ) F) (S : List ℕ → A → Type 0) (T : A → List ℕ → B → Type 0) → Exact first S → ((a : A) → Exact (second a) (T a)) → Exact (λ bytes. first bytes >>= λ a. second a.0 a.1) (Both S T)
+exact_then first second S T x y = record {
+  reads = λ bytes r are e.
+      both_steps (first bytes) _ r e λ a a_read e1.
+      let f = x.reads bytes a are a_read in
+      let s = (y a.0).reads a.1 r f.after e1 in
+      record {
+        part = f.part ++ s.part;
+        whole = f.whole ∙ ap (λ bytes. f.part ++ bytes) s.whole ∙ sym (append_assoc f.part s.part r.1);
+        spells = record { one = a.0; front = f.part; back = s.part; whole = refl; first = f.spells; second = s.spells };
+        after = s.after;
+      };
+  spelled = λ part rest b s.
+      let whole : part ++ rest ≡ s.front ++ (s.back ++ rest) = ap (λ bytes. bytes ++ rest) s.whole ∙ append_assoc s.front s.back rest in
+      ap (λ bytes. first bytes >>= λ a. second a.0 a.1) whole
+      ∙ first_step (first (s.front ++ (s.back ++ rest))) _ (s.one, s.back ++ rest) (x.spelled s.front (s.back ++ rest) s.one s.first)
+      ∙ (y s.one).spelled s.back rest b s.second;
+}
+
+-- a value that is made of what is read
+pub record Made {A B : Type 0} (make : A → B) (S : List ℕ → A → Type 0) (bytes : List ℕ) (b : B) : Type 0 where
+  pub of : A
+  pub is : make of ≡ b
+  pub spells : S bytes of
+
+pub exact_made : {A B F : Type 0} (make : A → B) (read : List ℕ → Result (A × List ℕ) F) (S : List ℕ → A → Type 0) → Exact read S → Exact (λ bytes. read bytes >>= λ a. Ok (make a.0, a.1)) (Made make S)
+exact_made {A} {B} make read S x = record {
+  reads = λ bytes r are e.
+      both_steps (read bytes) _ r e λ a a_read e1.
+      let f = x.reads bytes a are a_read in
+      let same : (make a.0, a.1) ≡ r = cc in
+      subst (λ (r : B × List ℕ). Front (Made make S) bytes r) same (record { part = f.part; whole = f.whole; spells = record { of = a.0; is = refl; spells = f.spells }; after = f.after });
+  spelled = λ part rest b s. first_step (read (part ++ rest)) _ (s.of, rest) (x.spelled part rest s.of s.spells) ∙ ap (λ b. Ok (b, rest)) s.is;
+}
+
+-- a value that has to pass a test
+pub exact_tested : {A F : Type 0} (test : A → Bool) (fault : F) (read : List ℕ → Result (A × List ℕ) F) (S T : List ℕ → A → Type 0) → Exact read S
+    → ((part : List ℕ) (x : A) → S part x → test x ≡ true → T part x) → ((part : List ℕ) (x : A) → T part x → S part x × (test x ≡ true))
+    → Exact (λ bytes. read bytes >>= λ a. cond (test a.0) (Ok a) (Err fault)) T
+exact_tested {A} test fault read S T x to from = record {
+  reads = λ bytes r are e.
+      both_steps (read bytes) _ r e λ a a_read e1.
+      let (right, same) = taken (test a.0) fault a r e1 in
+      let f = x.reads bytes a are a_read in
+      subst (λ (r : A × List ℕ). Front T bytes r) same (record { part = f.part; whole = f.whole; spells = to f.part a.0 f.spells right; after = f.after });
+  spelled = λ part rest a t.
+      let (s, right) = from part a t in
+      first_step (read (part ++ rest)) _ (a, rest) (x.spelled part rest a s) ∙ cond-true (test a) _ _ right;
+}
+
+-- a reading that is refused at once by a test
+pub exact_unless : {A F : Type 0} (b : Bool) (fault : F) (read : List ℕ → Result (A × List ℕ) F) (S : List ℕ → A → Type 0) → Exact read S → Exact (λ bytes. cond b (Err fault) (read bytes)) (λ part x. S part x × (b ≡ false))
+exact_unless b fault read S x = record {
+  reads = λ bytes r are e.
+      let (apart, read_is) = passed b fault (read bytes) r e in
+      let f = x.reads bytes r are read_is in
+      record { part = f.part; whole = f.whole; spells = (f.spells, apart); after = f.after };
+  spelled = λ part rest a s. cond-false b _ _ s.1 ∙ x.spelled part rest a s.0;
+}

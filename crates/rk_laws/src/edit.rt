@@ -1,0 +1,11 @@
+//! Laws of version edits.
+ghost use Rattle.std.specs.Prelude.{◌≡◌, ◌↔◌, ℕ, ◌^◌, ◌<◌, List, Ok};
+ghost use Rattle.rk_bytes.specs.Model.Numbers.{AreBytes};
+ghost use Rattle.rk_bytes.specs.Model.VersionEdit.{Field, IsEdit, edit_fields};
+
+/// Law: the fields that are read of an edit are those that its bytes spell, and there is at most one
+/// list of them.
+pub fn one_edit()
+    ensures read { (bytes : List ℕ) (fields : List Field) → AreBytes bytes → (edit_fields bytes ≡ Ok fields) ↔ IsEdit bytes fields }
+    ensures unique { (bytes : List ℕ) (fields others : List Field) → IsEdit bytes fields → IsEdit bytes others → others ≡ fields }
+{}
