@@ -17,15 +17,15 @@ IsCommandAnswer Done = Unit {0}
 IsCommandAnswer Refused = Unit {0}
 IsCommandAnswer _ = ⊥
 
--- Whole lines were taken, and then the line of a fault, of which a proper front only for that cause.
-pub record EndsInFault (before after : Option (List ℕ)) (lines : List (List ℕ)) (fault_line : List ℕ) (cause : Type 0) : Type 0 where
+-- Whole lines were taken, and then the line of a fault, of which only so many bytes where this is their cause.
+pub record EndsInFault (before after : Option (List ℕ)) (lines : List (List ℕ)) (fault_line : List ℕ) (cause : ℕ → Type 0) : Type 0 where
   pub count : ℕ
   pub len : ℕ
   pub taken : Took before after (joined (take count lines) ++ take len fault_line)
-  pub whole : len < length fault_line → cause
+  pub whole : len < length fault_line → cause len
 
--- A front of the line was taken, and a proper one only for that cause.
-pub record TookPart (before after : Option (List ℕ)) (line : List ℕ) (cause : Type 0) : Type 0 where
+-- A front of the line was taken, of which only so many bytes where this is their cause.
+pub record TookPart (before after : Option (List ℕ)) (line : List ℕ) (cause : ℕ → Type 0) : Type 0 where
   pub len : ℕ
   pub taken : Took before after (take len line)
-  pub whole : len < length line → cause
+  pub whole : len < length line → cause len

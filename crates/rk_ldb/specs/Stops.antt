@@ -32,9 +32,30 @@ TookLine before after line (Err Disk) = ⊥
 TookLine before after line (Err Sink) = TookFront before after line
 TookLine before after line (Err Memory) = after ≡ before
 
--- Only the count of what stopped it rose.
-abbrev pub CountsStop : {T : Type 0} → ℕ → ℕ → ℕ → ℕ → Result T Stop → Type 0
-CountsStop disk_before disk_now sink_before sink_now (Ok x) = (disk_now ≡ disk_before) × (sink_now ≡ sink_before)
-CountsStop disk_before disk_now sink_before sink_now (Err Disk) = Rose disk_before disk_now × (sink_now ≡ sink_before)
-CountsStop disk_before disk_now sink_before sink_now (Err Sink) = (disk_now ≡ disk_before) × Rose sink_before sink_now
-CountsStop disk_before disk_now sink_before sink_now (Err Memory) = (disk_now ≡ disk_before) × (sink_now ≡ sink_before)
+-- The disk's count of faults rose just where a fault of the disk stopped the command.
+abbrev pub DiskCounts : {T : Type 0} → ℕ → ℕ → Result T Stop → Type 0
+DiskCounts before now (Ok x) = now ≡ before
+DiskCounts before now (Err Disk) = Rose before now
+DiskCounts before now (Err Sink) = now ≡ before
+DiskCounts before now (Err Memory) = now ≡ before
+
+-- The output's count of faults rose just where a fault of the output stopped the command.
+abbrev pub SinkCounts : {T : Type 0} → ℕ → ℕ → Result T Stop → Type 0
+SinkCounts before now (Ok x) = now ≡ before
+SinkCounts before now (Err Disk) = now ≡ before
+SinkCounts before now (Err Sink) = Rose before now
+SinkCounts before now (Err Memory) = now ≡ before
+
+-- What has only a disk at hand doesn't stop for the output, and the count rose just where the disk failed.
+abbrev pub DiskStops : {T : Type 0} → ℕ → ℕ → Result T Stop → Type 0
+DiskStops before now (Ok x) = now ≡ before
+DiskStops before now (Err Disk) = Rose before now
+DiskStops before now (Err Sink) = ⊥
+DiskStops before now (Err Memory) = now ≡ before
+
+-- What has only an output at hand doesn't stop for the disk, and the count rose just where the output failed.
+abbrev pub OutputStops : {T : Type 0} → ℕ → ℕ → Result T Stop → Type 0
+OutputStops before now (Ok x) = now ≡ before
+OutputStops before now (Err Disk) = ⊥
+OutputStops before now (Err Sink) = Rose before now
+OutputStops before now (Err Memory) = now ≡ before

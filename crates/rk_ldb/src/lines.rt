@@ -2,7 +2,7 @@ ghost use Rattle.std.specs.Prelude.{◌≡◌, IfOk, OnOk, string_bytes};
 ghost use Rattle.rk_bytes.specs.Model.FileNames.{log_name};
 ghost use Rattle.rk_bytes.specs.Model.Output.{item_line, no_log_line};
 ghost use Rattle.rk_log.specs.Items.{item_of};
-ghost use Rattle.rk_ldb.specs.Stops.{TookLine, CountsStop};
+ghost use Rattle.rk_ldb.specs.Stops.{TookLine, OutputStops};
 
 use crate::stop::Stop;
 use rk_disk::Sink;
@@ -51,7 +51,7 @@ pub(crate) fn set_item_line(line: &mut String, item: &Item<'_>) -> Result<(), Al
 /// Writes one line by one `write`.
 pub(crate) fn write_line<S: Sink>(line: &str, out: &mut S) -> Result<(), Stop>
     ensures line { TookLine (S.taken out.old) (S.taken out.new) line.now result }
-    ensures counts { CountsStop 0 0 (S.faults out.old) (S.faults out.new) result }
+    ensures counts { OutputStops (S.faults out.old) (S.faults out.new) result }
 {
     out.write(line.as_bytes())?;
     Ok(())

@@ -1,11 +1,13 @@
 ghost use Rattle.std.specs.Prelude.{◌≡◌, ◌∷◌, [], map, IfOk, IfSome};
 ghost use Rattle.std.specs.FinMap.{get};
+ghost use Rattle.rk_bytes.specs.Model.DiskImages.{contents_told};
 ghost use Rattle.rk_bytes.specs.Model.FileNames.{log_name};
 ghost use Rattle.rk_bytes.specs.Model.LogItems.{log_items};
 ghost use Rattle.rk_bytes.specs.Model.Output.{item_line, dump_wal_output};
+ghost use Rattle.rk_disk.specs.Left.{IsLeft};
 ghost use Rattle.rk_ldb.specs.Answers.{IsCommandAnswer};
 ghost use Rattle.rk_log.specs.Items.{item_of};
-ghost use Rattle.rk_ldb.specs.Stops.{TookLine, TookUpTo, CountsStop};
+ghost use Rattle.rk_ldb.specs.Stops.{TookLine, TookUpTo, DiskCounts, SinkCounts, DiskStops, OutputStops};
 ghost use Rattle.rk_ldb.specs.Last.{is_last};
 
 use crate::lines::{log_name, no_log_line, set_item_line, write_line};
@@ -23,11 +25,12 @@ pub(crate) fn dump_wal<D: Disk, S: Sink>(
     disk: &mut D,
     out: &mut S,
 ) -> Result<Status, Stop>
-    ensures lines { IfSome (D.contents disk.old) (λ d. TookUpTo (S.taken out.old) (S.taken out.new) (dump_wal_output number (get d (log_name number))).lines result) }
-    ensures status { IfSome (D.contents disk.old) (λ d. IfOk result (λ status. status ≡ (dump_wal_output number (get d (log_name number))).status)) }
+    ensures lines { IfSome (contents_told (D.told disk.old)) (λ d. TookUpTo (S.taken out.old) (S.taken out.new) (dump_wal_output number (get d (log_name number))).lines result) }
+    ensures status { IfSome (contents_told (D.told disk.old)) (λ d. IfOk result (λ status. status ≡ (dump_wal_output number (get d (log_name number))).status)) }
     ensures answers { IfOk result IsCommandAnswer }
-    ensures counts { CountsStop (D.faults disk.old) (D.faults disk.new) (S.faults out.old) (S.faults out.new) result }
-    ensures contents { D.contents disk.new ≡ D.contents disk.old }
+    ensures disk_count { DiskCounts (D.faults disk.old) (D.faults disk.new) result }
+    ensures output_count { SinkCounts (S.faults out.old) (S.faults out.new) result }
+    ensures left { IsLeft (D.told disk.old) (D.told disk.new) }
 {
     let file = read_log(alloc, number, disk)?;
     write_dump(alloc, number, file, out)
@@ -35,9 +38,9 @@ pub(crate) fn dump_wal<D: Disk, S: Sink>(
 
 /// The whole file of the log with this number, or `None` where it isn't there.
 fn read_log<D: Disk>(alloc: Global, number: u64, disk: &mut D) -> Result<Option<Bytes>, Stop>
-    ensures file { IfOk result (λ file. IfSome (D.contents disk.old) (λ d. file ≡ get d (log_name number))) }
-    ensures counts { CountsStop (D.faults disk.old) (D.faults disk.new) 0 0 result }
-    ensures contents { D.contents disk.new ≡ D.contents disk.old }
+    ensures file { IfOk result (λ file. IfSome (contents_told (D.told disk.old)) (λ d. file ≡ get d (log_name number))) }
+    ensures counts { DiskStops (D.faults disk.old) (D.faults disk.new) result }
+    ensures left { IsLeft (D.told disk.old) (D.told disk.new) }
 {
     let name = log_name(alloc, number)?;
     let file = read_file(alloc, disk, name.as_str())?;
@@ -54,7 +57,7 @@ fn write_dump<S: Sink>(
     ensures lines { TookUpTo (S.taken out.old) (S.taken out.new) (dump_wal_output number file).lines result }
     ensures status { IfOk result (λ status. status ≡ (dump_wal_output number file).status) }
     ensures answers { IfOk result IsCommandAnswer }
-    ensures counts { CountsStop 0 0 (S.faults out.old) (S.faults out.new) result }
+    ensures counts { OutputStops (S.faults out.old) (S.faults out.new) result }
 {
     match file {
         Some(bytes) => {
@@ -72,7 +75,7 @@ fn write_dump<S: Sink>(
 /// Writes a line for each item of the log's bytes. One buffer serves for all lines.
 fn write_items<S: Sink>(alloc: Global, bytes: &[u8], number: u64, out: &mut S) -> Result<(), Stop>
     ensures lines { TookUpTo (S.taken out.old) (S.taken out.new) (map item_line (log_items number bytes.now)) result }
-    ensures counts { CountsStop 0 0 (S.faults out.old) (S.faults out.new) result }
+    ensures counts { OutputStops (S.faults out.old) (S.faults out.new) result }
 {
     let mut reader = LogReader::new(bytes, number);
     let mut line = String::new(alloc);
@@ -89,7 +92,7 @@ fn write_items<S: Sink>(alloc: Global, bytes: &[u8], number: u64, out: &mut S) -
 fn write_item<S: Sink>(item: Item<'_>, line: &mut String, out: &mut S) -> Result<bool, Stop>
     ensures line { TookLine (S.taken out.old) (S.taken out.new) (item_line (item_of item.entry)) result }
     ensures last { IfOk result (λ last. last ≡ is_last (item_of item.entry)) }
-    ensures counts { CountsStop 0 0 (S.faults out.old) (S.faults out.new) result }
+    ensures counts { OutputStops (S.faults out.old) (S.faults out.new) result }
 {
     set_item_line(line, &item)?;
     write_line(line.as_str(), out)?;

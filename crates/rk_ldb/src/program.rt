@@ -1,8 +1,9 @@
 ghost use Rattle.std.specs.Prelude.{◌≡◌, ℕ, ◌+◌, ◌^◌, ◌<◌, ◌⊎◌, ◌∷◌, [], Ok, IfOk, OnOk, IsErrOf, IfSome, IsNone, length, take};
-ghost use Rattle.rk_bytes.specs.Model.DiskImages.{Rose};
+ghost use Rattle.rk_bytes.specs.Model.DiskImages.{Rose, contents_told};
+ghost use Rattle.rk_disk.specs.Left.{IsLeft};
 ghost use Rattle.rk_bytes.specs.Model.Output.{output, text, command_of, command_output, usage_line, disk_fault_line, memory_fault_line, Took, TookLines, TookFront};
 ghost use Rattle.rk_ldb.specs.Answers.{IsAnswer, IsCommandAnswer, EndsInFault, TookPart};
-ghost use Rattle.rk_ldb.specs.Stops.{TookUpTo, CountsStop};
+ghost use Rattle.rk_ldb.specs.Stops.{TookUpTo, DiskCounts, SinkCounts, OutputStops};
 
 use crate::command::{Command, read_command};
 use crate::lines::{DISK_FAULT_LINE, MEMORY_FAULT_LINE, USAGE_LINE, write_line};
@@ -14,10 +15,11 @@ use rk_disk::{Disk, Sink, SinkErr};
 use std::alloc::Global;
 
 /// Runs the command that the words spell over the files of the disk, and writes its lines, each by
-/// one `write` of the output. After a fault of the disk or want of memory the last line names it.
+/// one `write` of the output. After a fault of the disk or want of memory the last line names it. At
+/// its end the output hands on what it holds back, once.
 pub fn run<D: Disk, S: Sink>(alloc: Global, words: &[Text], disk: &mut D, out: &mut S) -> Status
     // An answer is that of the definition, in full, and nothing else was taken.
-    ensures answer { IsAnswer result → IfSome (D.contents disk.old) (λ d.
+    ensures answer { IsAnswer result → IfSome (contents_told (D.told disk.old)) (λ d.
         Took (S.taken out.old) (S.taken out.new) (text (output words.now d)) × (result ≡ (output words.now d).status)) }
 
     // The words alone decide whether the answer is the usage line, whatever the disk tells.
@@ -30,23 +32,23 @@ pub fn run<D: Disk, S: Sink>(alloc: Global, words: &[Text], disk: &mut D, out: &
     ensures sink_fault { result ≡ Status.SinkFault → Rose (S.faults out.old) (S.faults out.new) × (D.faults disk.new ≡ D.faults disk.old) }
 
     // After a fault of the disk whole lines were taken, and want of memory left out the fault's line.
-    ensures memory { result ≡ Status.Memory → (D.faults disk.new ≡ D.faults disk.old) ⊎ IfSome (D.contents disk.old) (λ d.
+    ensures memory { result ≡ Status.Memory → (D.faults disk.new ≡ D.faults disk.old) ⊎ IfSome (contents_told (D.told disk.old)) (λ d.
         TookLines (S.taken out.old) (S.taken out.new) (output words.now d).lines []) }
 
     // What was taken up to a fault.
-    ensures disk_fault_text { result ≡ Status.DiskFault → IfSome (D.contents disk.old) (λ d.
-        EndsInFault (S.taken out.old) (S.taken out.new) (output words.now d).lines disk_fault_line (Rose (S.faults out.old) (S.faults out.new))) }
-    ensures memory_text { result ≡ Status.Memory → IfSome (D.contents disk.old) (λ d.
-        EndsInFault (S.taken out.old) (S.taken out.new) (output words.now d).lines memory_fault_line (Unit {0})) }
-    ensures sink_fault_text { result ≡ Status.SinkFault → IfSome (D.contents disk.old) (λ d.
+    ensures disk_fault_text { result ≡ Status.DiskFault → IfSome (contents_told (D.told disk.old)) (λ d.
+        EndsInFault (S.taken out.old) (S.taken out.new) (output words.now d).lines disk_fault_line (λ len. Rose (S.faults out.old) (S.faults out.new))) }
+    ensures memory_text { result ≡ Status.Memory → IfSome (contents_told (D.told disk.old)) (λ d.
+        EndsInFault (S.taken out.old) (S.taken out.new) (output words.now d).lines memory_fault_line (λ len. (len ≡ 0) ⊎ Rose (S.faults out.old) (S.faults out.new))) }
+    ensures sink_fault_text { result ≡ Status.SinkFault → IfSome (contents_told (D.told disk.old)) (λ d.
         TookFront (S.taken out.old) (S.taken out.new) (text (output words.now d))) }
 
-    ensures contents { D.contents disk.new ≡ D.contents disk.old }
+    ensures left { IsLeft (D.told disk.old) (D.told disk.new) }
 {
     match answer(alloc, words, disk, out) {
-        Ok(status) => status,
+        Ok(status) => end_after_answer(status, out),
         Err(Stop::Disk) => end_after_disk_fault(out),
-        Err(Stop::Sink) => Status::SinkFault,
+        Err(Stop::Sink) => end_after_output_fault(out),
         Err(Stop::Memory) => end_after_want_of_memory(out),
     }
 }
@@ -58,12 +60,13 @@ fn answer<D: Disk, S: Sink>(
     disk: &mut D,
     out: &mut S,
 ) -> Result<Status, Stop>
-    ensures lines { IfSome (D.contents disk.old) (λ d. TookUpTo (S.taken out.old) (S.taken out.new) (output words.now d).lines result) }
-    ensures status { IfSome (D.contents disk.old) (λ d. IfOk result (λ status. status ≡ (output words.now d).status)) }
+    ensures lines { IfSome (contents_told (D.told disk.old)) (λ d. TookUpTo (S.taken out.old) (S.taken out.new) (output words.now d).lines result) }
+    ensures status { IfSome (contents_told (D.told disk.old)) (λ d. IfOk result (λ status. status ≡ (output words.now d).status)) }
     ensures usage { IfOk result (λ status. IsCommandAnswer status ⊎ ((status ≡ Status.Usage) × (IsNone (command_of words.now) × Took (S.taken out.old) (S.taken out.new) usage_line))) }
     ensures no_usage { IsNone (command_of words.now) → (result ≡ Ok Status.Usage) ⊎ (IsErrOf result Stop.Sink ⊎ IsErrOf result Stop.Memory) }
-    ensures counts { CountsStop (D.faults disk.old) (D.faults disk.new) (S.faults out.old) (S.faults out.new) result }
-    ensures contents { D.contents disk.new ≡ D.contents disk.old }
+    ensures disk_count { DiskCounts (D.faults disk.old) (D.faults disk.new) result }
+    ensures output_count { SinkCounts (S.faults out.old) (S.faults out.new) result }
+    ensures left { IsLeft (D.told disk.old) (D.told disk.new) }
 {
     match read_command(words) {
         Some(Command::DumpWal { number }) => dump_wal(alloc, number, disk, out),
@@ -76,31 +79,60 @@ fn answer_with_usage<S: Sink>(out: &mut S) -> Result<Status, Stop>
     ensures lines { TookUpTo (S.taken out.old) (S.taken out.new) (usage_line ∷ []) result }
     ensures line { OnOk result (Took (S.taken out.old) (S.taken out.new) usage_line) }
     ensures status { IfOk result (λ status. status ≡ Status.Usage) }
-    ensures counts { CountsStop 0 0 (S.faults out.old) (S.faults out.new) result }
+    ensures counts { OutputStops (S.faults out.old) (S.faults out.new) result }
 {
     write_line(USAGE_LINE, out)?;
     Ok(Status::Usage)
 }
 
-/// Writes the line that ends the output after a fault of the disk.
+/// Hands on what the output holds back after an answer, which stays where that succeeds.
+fn end_after_answer<S: Sink>(status: Status, out: &mut S) -> Status
+    requires { IsAnswer status }
+    ensures answer { IsAnswer result → (result ≡ status) × (S.faults out.new ≡ S.faults out.old) }
+    ensures failed { result ≡ Status.SinkFault → Rose (S.faults out.old) (S.faults out.new) }
+    ensures only { (result ≡ status) ⊎ ((result ≡ Status.SinkFault) ⊎ (result ≡ Status.Memory)) }
+    ensures taken { S.taken out.new ≡ S.taken out.old }
+{
+    match out.flush() {
+        Ok(()) => status,
+        Err(SinkErr::Failed) => Status::SinkFault,
+        Err(SinkErr::Memory) => Status::Memory,
+    }
+}
+
+/// Writes the line that ends the output after a fault of the disk, and hands it on.
 fn end_after_disk_fault<S: Sink>(out: &mut S) -> Status
     ensures status { (result ≡ Status.DiskFault) ⊎ (result ≡ Status.Memory) }
-    ensures line { result ≡ Status.DiskFault → TookPart (S.taken out.old) (S.taken out.new) disk_fault_line (Rose (S.faults out.old) (S.faults out.new)) }
+    ensures line { result ≡ Status.DiskFault → TookPart (S.taken out.old) (S.taken out.new) disk_fault_line (λ len. Rose (S.faults out.old) (S.faults out.new)) }
     ensures memory { result ≡ Status.Memory → S.taken out.new ≡ S.taken out.old }
 {
-    match out.write(DISK_FAULT_LINE.as_bytes()) {
+    let written = out.write(DISK_FAULT_LINE.as_bytes());
+    let _ = out.flush();
+    match written {
         Ok(()) => Status::DiskFault,
         Err(SinkErr::Failed) => Status::DiskFault,
         Err(SinkErr::Memory) => Status::Memory,
     }
 }
 
-/// Writes the line that ends the output after want of memory, where the output can still take it.
-/// `run` does so by itself: this is for a program that had no memory to call it.
+/// Hands on what an output that failed still holds.
+fn end_after_output_fault<S: Sink>(out: &mut S) -> Status
+    ensures status { result ≡ Status.SinkFault }
+    ensures faults { S.faults out.old ≤ S.faults out.new }
+    ensures taken { S.taken out.new ≡ S.taken out.old }
+{
+    let _ = out.flush();
+    Status::SinkFault
+}
+
+/// Writes the line that ends the output after want of memory, where the output can still take it, and
+/// hands it on. `run` does so by itself: this is for a program that had no memory to call it.
 pub fn end_after_want_of_memory<S: Sink>(out: &mut S) -> Status
     ensures status { result ≡ Status.Memory }
-    ensures line { TookPart (S.taken out.old) (S.taken out.new) memory_fault_line (Unit {0}) }
+    // Nothing of the line is taken, or all of it, or a front of it where the output failed.
+    ensures line { TookPart (S.taken out.old) (S.taken out.new) memory_fault_line (λ len. (len ≡ 0) ⊎ Rose (S.faults out.old) (S.faults out.new)) }
 {
     let _ = out.write(MEMORY_FAULT_LINE.as_bytes());
+    let _ = out.flush();
     Status::Memory
 }
