@@ -7,7 +7,7 @@ use Rattle.std.proofs.lemmas.Bool.{false≢true, ltb-true, lt-ltb}
 use Rattle.std.proofs.lemmas.Option.{cond_some}
 use Rattle.std.proofs.lemmas.Slice.Eq.{bytes_eq-Decides}
 use Rattle.std.proofs.lemmas.Fmt.{decimal_is_IsNumeral}
-use Rattle.rk_bytes.specs.Model.Output.{Command, dump_wal, SpellsCommand, number_of, command_of}
+use Rattle.rk_bytes.specs.Model.Grammar.{Command, dump_wal, SpellsCommand, number_of, command_of}
 
 parts_true : (a b : Bool) → (a && b) ≡ true → (a ≡ true) × (b ≡ true)
 parts_true true b e = (refl, e)

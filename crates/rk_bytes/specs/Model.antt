@@ -7,6 +7,8 @@ pub mod DiskImages
 pub mod BlockEntries
 pub mod TableFooter
 pub mod TableStatus
+pub mod Grammar
+pub mod Lines
 pub mod Output
 pub mod InternalKey
 pub mod Records

@@ -1,6 +1,6 @@
 //! Laws of the commands' grammar.
 ghost use Rattle.std.specs.Prelude.{◌≡◌, ◌↔◌, ℕ, List, Some};
-ghost use Rattle.rk_bytes.specs.Model.Output.{Command, SpellsCommand, command_of};
+ghost use Rattle.rk_bytes.specs.Model.Grammar.{Command, SpellsCommand, command_of};
 
 /// Law: the command of a list of words is the one that they spell, and there is at most one.
 pub fn one_command()
