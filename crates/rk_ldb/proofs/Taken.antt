@@ -14,7 +14,8 @@ use Rattle.std.specs.Prelude.{IsErrOf}
 use Rattle.rk_disk.specs.declared.sink.SinkErr.{SinkErr}
 use Rattle.rk_disk.specs.declared.sink.SinkErr.TheVariants as sink
 use Rattle.rk_ldb.specs.Stops.{sink_stop, TookLine, TookUpTo}
-use Rattle.rk_bytes.specs.Model.Output.{Took, TookLines, TookFront, joined, item_line}
+use Rattle.rk_bytes.specs.Model.Lines.{item_line}
+use Rattle.rk_bytes.specs.Model.Output.{Took, TookLines, TookFront, joined}
 
 pub took_nothing : (taken : Option (List ℕ)) → Took taken taken []
 took_nothing None = refl
@@ -25,25 +26,18 @@ took_more None between after first second one two = two ∙ ap (option_map (λ f
 took_more (Some front) between after first second one two =
     two ∙ (ap (option_map (λ f. f ++ second)) one ∙ ap Some (append_assoc front first second))
 
--- The items that were given out so far, and those that are left. The output took the lines of the first.
-pub record Wrote (before now : Option (List ℕ)) (all rest : List Item) : Type 0 where
-  pub given : List Item
+-- The lines that were written so far, and those that are left. The output took the first.
+pub record Wrote (before now : Option (List ℕ)) (all rest : List (List ℕ)) : Type 0 where
+  pub given : List (List ℕ)
   pub whole : all ≡ given ++ rest
-  pub taken : Took before now (joined (map item_line given))
+  pub taken : Took before now (joined given)
 
 joined-append : (lines more : List (List ℕ)) → joined (lines ++ more) ≡ joined lines ++ joined more
 joined-append lines more = flat_map-append (λ bytes. bytes) lines more
 
-lines-append : (items more : List Item) → map item_line (items ++ more) ≡ map item_line items ++ map item_line more
-lines-append [] more = refl
-lines-append (item ∷ items) more = ap (λ lines. item_line item ∷ lines) (lines-append items more)
-
-pub joined_lines-append : (items more : List Item) → joined (map item_line (items ++ more)) ≡ joined (map item_line items) ++ joined (map item_line more)
-joined_lines-append items more = ap joined (lines-append items more) ∙ joined-append (map item_line items) (map item_line more)
-
-lines_so_far : (given rest : List Item) → take (length given) (map item_line (given ++ rest)) ≡ map item_line given
+lines_so_far : (given rest : List (List ℕ)) → take (length given) (given ++ rest) ≡ given
 lines_so_far [] rest = refl
-lines_so_far (item ∷ given) rest = ap (λ lines. item_line item ∷ lines) (lines_so_far given rest)
+lines_so_far (line ∷ given) rest = ap (λ lines. line ∷ lines) (lines_so_far given rest)
 
 front_of_three : (x y z : List ℕ) (n : ℕ) → x ++ take n y ≡ take (length x + min n (length y)) (x ++ (y ++ z))
 front_of_three x y z n =
@@ -51,40 +45,45 @@ front_of_three x y z n =
     ∙ sym (take-append-add x (y ++ z) (min n (length y))))
 
 -- what was taken before a stop that isn't the output's
-pub Wrote-lines : (before now : Option (List ℕ)) (all rest : List Item) → Wrote before now all rest → TookLines before now (map item_line all) []
+pub Wrote-lines : (before now : Option (List ℕ)) (all rest : List (List ℕ)) → Wrote before now all rest → TookLines before now all []
 Wrote-lines before now all rest h =
-    let so_far : take (length h.given) (map item_line all) ≡ map item_line h.given =
-    ap (λ items. take (length h.given) (map item_line items)) h.whole ∙ lines_so_far h.given rest in
-    (length h.given, h.taken ∙ ap (λ bytes. option_map (λ front. front ++ bytes) before) (sym (append-nil (joined (take (length h.given) (map item_line all))) ∙ ap joined so_far)))
+    let so_far : take (length h.given) all ≡ h.given = ap (take (length h.given)) h.whole ∙ lines_so_far h.given rest in
+    (length h.given, h.taken ∙ ap (λ bytes. option_map (λ front. front ++ bytes) before) (sym (append-nil (joined (take (length h.given) all)) ∙ ap joined so_far)))
 
 -- what was taken after a write of the next line that failed
-pub Wrote-front : (before between now : Option (List ℕ)) (all rest : List Item) (item : Item) (n : ℕ) → Wrote before between all (item ∷ rest) → Took between now (take n (item_line item)) → TookFront before now (joined (map item_line all))
-Wrote-front before between now all rest item n h more =
-    let front = joined (map item_line h.given) in
-    let whole : joined (map item_line all) ≡ front ++ (item_line item ++ joined (map item_line rest)) =
-    ap (λ items. joined (map item_line items)) h.whole ∙ joined_lines-append h.given (item ∷ rest) in
-    let len = length front + min n (length (item_line item)) in (
+pub Wrote-front : (before between now : Option (List ℕ)) (all rest : List (List ℕ)) (line : List ℕ) (n : ℕ) → Wrote before between all (line ∷ rest) → Took between now (take n line) → TookFront before now (joined all)
+Wrote-front before between now all rest line n h more =
+    let front = joined h.given in
+    let whole : joined all ≡ front ++ (line ++ joined rest) = ap joined h.whole ∙ joined-append h.given (line ∷ rest) in
+    let len = length front + min n (length line) in (
       len,
-      took_more before between now front (take n (item_line item)) h.taken more
-          ∙ ap (λ bytes. option_map (λ f. f ++ bytes) before) (front_of_three front (item_line item) (joined (map item_line rest)) n ∙ ap (take len) (sym whole)),
+      took_more before between now front (take n line) h.taken more
+          ∙ ap (λ bytes. option_map (λ f. f ++ bytes) before) (front_of_three front line (joined rest) n ∙ ap (take len) (sym whole)),
     )
 
 -- one line more
-pub Wrote-more : (before between now : Option (List ℕ)) (all rest : List Item) (item : Item) → Wrote before between all (item ∷ rest) → Took between now (item_line item) → Wrote before now all rest
-Wrote-more before between now all rest item h more = record {
-  given = h.given ++ item ∷ [];
-  whole = h.whole ∙ sym (append_assoc h.given (item ∷ []) rest);
+pub Wrote-more : (before between now : Option (List ℕ)) (all rest : List (List ℕ)) (line : List ℕ) → Wrote before between all (line ∷ rest) → Took between now line → Wrote before now all rest
+Wrote-more before between now all rest line h more = record {
+  given = h.given ++ line ∷ [];
+  whole = h.whole ∙ sym (append_assoc h.given (line ∷ []) rest);
   taken =
-      took_more before between now (joined (map item_line h.given)) (item_line item) h.taken more
-      ∙ ap (λ bytes. option_map (λ f. f ++ bytes) before) (sym (joined_lines-append h.given (item ∷ []) ∙ ap (λ w. joined (map item_line h.given) ++ w) (append-nil (item_line item))));
+      took_more before between now (joined h.given) line h.taken more
+      ∙ ap (λ bytes. option_map (λ f. f ++ bytes) before) (sym (joined-append h.given (line ∷ []) ∙ ap (λ w. joined h.given ++ w) (append-nil line)));
 }
 
-pub Wrote-nothing : (taken : Option (List ℕ)) (all : List Item) → Wrote taken taken all all
+pub Wrote-nothing : (taken : Option (List ℕ)) (all : List (List ℕ)) → Wrote taken taken all all
 Wrote-nothing taken all = record { given = []; whole = refl; taken = took_nothing taken }
 
-pub Wrote-all : (before now : Option (List ℕ)) (all : List Item) → Wrote before now all [] → Took before now (joined (map item_line all))
-Wrote-all before now all h =
-    h.taken ∙ ap (λ items. option_map (λ f. f ++ joined (map item_line items)) before) (sym (h.whole ∙ append-nil h.given))
+pub Wrote-all : (before now : Option (List ℕ)) (all : List (List ℕ)) → Wrote before now all [] → Took before now (joined all)
+Wrote-all before now all h = h.taken ∙ ap (λ lines. option_map (λ f. f ++ joined lines) before) (sym (h.whole ∙ append-nil h.given))
+
+-- a stop at the next line
+pub Wrote-stopped : (T : Type 0) (before between now : Option (List ℕ)) (all rest : List (List ℕ)) (line : List ℕ) (stop : Stop)
+    → Wrote before between all (line ∷ rest) → TookLine {T = T} between now line (Err stop) → TookUpTo {T = T} before now all (Err stop)
+Wrote-stopped T before between now all rest line Disk h took = absurd took
+Wrote-stopped T before between now all rest line Sink h took = Wrote-front before between now all rest line took.0 h took.1
+Wrote-stopped T before between now all rest line Memory h took =
+    subst (λ taken. TookLines before taken all []) (sym took) (Wrote-lines before between all (line ∷ rest) h)
 
 -- ---- one turn of a dump
 
@@ -103,15 +102,6 @@ pub first_given : (old new : List Item) (item : Item) → Gives old item new →
 first_given old new (rec payload place) gives = (new, gives)
 first_given old new (gap why place) gives = (new, gives)
 first_given old new (end kind place) gives = ([], gives.0)
-
-pub Wrote-stopped : (T : Type 0) (before between now : Option (List ℕ)) (all old new : List Item) (item : Item) (stop : Stop)
-    → Wrote before between all old → Gives old item new → TookLine {T = T} between now (item_line item) (Err stop) → TookUpTo {T = T} before now (map item_line all) (Err stop)
-Wrote-stopped T before between now all old new item Disk h gives took = absurd took
-Wrote-stopped T before between now all old new item Sink h gives took =
-    let first = first_given old new item gives in
-    Wrote-front before between now all first.0 item took.0 (subst (Wrote before between all) first.1 h) took.1
-Wrote-stopped T before between now all old new item Memory h gives took =
-    subst (λ taken. TookLines before taken (map item_line all) []) (sym took) (Wrote-lines before between all old h)
 
 pub TookLine-stopped : (T : Type 0) (before after : Option (List ℕ)) (bytes line : List ℕ) (error : SinkErr)
     → (IsErrOf {T = Unit {0}} (Err error) sink.Failed → TookFront before after bytes) → (IsErrOf {T = Unit {0}} (Err error) sink.Memory → after ≡ before) → bytes ≡ line

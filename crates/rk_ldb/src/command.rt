@@ -1,6 +1,6 @@
 ghost use Rattle.std.specs.Prelude.{◌≡◌, ◌⊎◌, ◌↔◌, ℕ, ◌<◌, ◌^◌, IsTrue, MatchOption, length, slice_index, decimal};
 ghost use Rattle.std.specs.Option.{option_map};
-ghost use Rattle.rk_bytes.specs.Model.Output.{command_of};
+ghost use Rattle.rk_bytes.specs.Model.Grammar.{command_of};
 ghost use Rattle.rk_ldb.specs.Commands.{told};
 
 use rk_bytes::Text;

@@ -1,6 +1,6 @@
 ghost use Rattle.std.specs.Prelude.{◌≡◌, IfOk, OnOk, string_bytes};
 ghost use Rattle.rk_bytes.specs.Model.FileNames.{log_name};
-ghost use Rattle.rk_bytes.specs.Model.Output.{item_line, no_log_line};
+ghost use Rattle.rk_bytes.specs.Model.Lines.{item_line, no_log_line};
 ghost use Rattle.rk_log.specs.Items.{item_of};
 ghost use Rattle.rk_ldb.specs.Stops.{TookLine, OutputStops};
 

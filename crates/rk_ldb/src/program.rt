@@ -1,7 +1,9 @@
 ghost use Rattle.std.specs.Prelude.{◌≡◌, ℕ, ◌+◌, ◌^◌, ◌<◌, ◌⊎◌, ◌∷◌, [], Ok, IfOk, OnOk, IsErrOf, IfSome, IsNone, length, take};
 ghost use Rattle.rk_bytes.specs.Model.DiskImages.{Rose, contents_told};
 ghost use Rattle.rk_disk.specs.Left.{IsLeft};
-ghost use Rattle.rk_bytes.specs.Model.Output.{output, text, command_of, command_output, usage_line, disk_fault_line, memory_fault_line, Took, TookLines, TookFront};
+ghost use Rattle.rk_bytes.specs.Model.Grammar.{command_of};
+ghost use Rattle.rk_bytes.specs.Model.Lines.{usage_line, disk_fault_line, memory_fault_line};
+ghost use Rattle.rk_bytes.specs.Model.Output.{output, text, command_output, Took, TookLines, TookFront};
 ghost use Rattle.rk_ldb.specs.Answers.{IsAnswer, IsCommandAnswer, EndsInFault, TookPart};
 ghost use Rattle.rk_ldb.specs.Stops.{TookUpTo, DiskCounts, SinkCounts, OutputStops};
 

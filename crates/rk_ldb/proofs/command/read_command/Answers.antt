@@ -1,7 +1,7 @@
 use Rattle.std.proofs.Common.{◌≡◌, ℕ, ◌<◌, ◌≤◌, not, List, [], ◌∷◌, length, get_or, true, false, Bool, refl, sym, ◌∙◌, arith}
 use Rattle.std.specs.Prelude.{codes}
 use Rattle.std.proofs.lemmas.Slice.Eq.{bytes_eq-Decides}
-use Rattle.rk_bytes.specs.Model.Output.{dump_wal}
+use Rattle.rk_bytes.specs.Model.Grammar.{dump_wal}
 use Rattle.rk_bytes.proofs.CommandLemmas.{command_of-SpellsCommand}
 use Rattle.rk_ldb.proofs.command.read_command.Goals as goal
 

@@ -1,7 +1,7 @@
 use Rattle.std.proofs.Common.{map, Err, sym, ap, ◌∙◌, subst}
 use Rattle.std.proofs.lemmas.Result.{err_from_is_err_and}
 use Rattle.rk_bytes.specs.Model.LogItems.{log_items}
-use Rattle.rk_bytes.specs.Model.Output.{item_line}
+use Rattle.rk_bytes.specs.Model.Lines.{item_line}
 use Rattle.rk_ldb.specs.Stops.{TookUpTo}
 use Rattle.rk_ldb.proofs.Taken.{Wrote, Wrote-stopped, Wrote-more, next_given}
 use Rattle.rk_ldb.proofs.log_dump.write_items.Goals as goal

@@ -1,7 +1,8 @@
 use Rattle.std.proofs.Common.{Err, subst}
 use Rattle.rk_bytes.specs.declared.model.status.Status.{Status}
 use Rattle.rk_bytes.specs.Model.DiskImages.{Rose}
-use Rattle.rk_bytes.specs.Model.Output.{output, disk_fault_line, memory_fault_line}
+use Rattle.rk_bytes.specs.Model.Lines.{disk_fault_line, memory_fault_line}
+use Rattle.rk_bytes.specs.Model.Output.{output}
 use Rattle.rk_ldb.specs.Stops.{TookUpTo}
 use Rattle.rk_ldb.specs.Answers.{EndsInFault}
 use Rattle.rk_ldb.proofs.Faults.{IfSome-with, TookPart-none, EndsInFault-lines, lines_at_disk, lines_at_memory, quiet_at_disk}
