@@ -13,3 +13,4 @@ pub mod Records
 pub mod WriteBatch
 pub mod VersionEdit
 pub mod Manifest
+pub mod KeyView
