@@ -13,4 +13,5 @@ pub mod Records
 pub mod WriteBatch
 pub mod VersionEdit
 pub mod Manifest
+pub mod KeyView
 pub mod Salvage
