@@ -15,3 +15,4 @@ pub mod VersionEdit
 pub mod Manifest
 pub mod KeyView
 pub mod Salvage
+pub mod Examples

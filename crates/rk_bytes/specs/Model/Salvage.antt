@@ -17,6 +17,8 @@ use Rattle.rk_bytes.specs.declared.model.block.RangeDel.{RangeDel}
 use Rattle.rk_bytes.specs.declared.model.block.IndexEntry.{IndexEntry}
 use Rattle.rk_bytes.specs.declared.model.table.Footer.{Footer}
 use Rattle.rk_bytes.specs.declared.model.table.TableWhat.{TableWhat}
+use Rattle.rk_bytes.specs.declared.model.table.TableWhat.TheVariants.{Comparator, External}
+use Rattle.rk_bytes.specs.declared.model.log.GapWhy.TheVariants.{Checksum}
 use Rattle.rk_bytes.specs.declared.model.wal.LogWhat.{LogWhat}
 use Rattle.rk_bytes.specs.declared.model.wal.LogWhat.TheVariants.{RecordType, Tag}
 use Rattle.rk_bytes.specs.declared.model.name.FileName.{FileName}
@@ -27,16 +29,19 @@ use Rattle.rk_bytes.specs.declared.model.salvage.FamilyName.{FamilyName}
 use Rattle.rk_bytes.specs.declared.model.salvage.Kept.{Kept}
 use Rattle.rk_bytes.specs.declared.model.salvage.Moved.{Moved}
 use Rattle.rk_bytes.specs.declared.model.salvage.Report.{Report}
-use Rattle.rk_bytes.specs.Model.Numbers.{◌>>=◌}
+use Rattle.rk_bytes.specs.Model.Numbers.{◌>>=◌, in_turn}
 use Rattle.rk_bytes.specs.Model.Checksums.{crc_bit, crc_bits, crc_bytes, crc32c}
 use Rattle.rk_bytes.specs.Model.BlockEntries.{block_entries, entries_after, index_entries}
 use Rattle.rk_bytes.specs.Model.TableFooter.{footer_of, checked_block}
 use Rattle.rk_bytes.specs.Model.TableStatus.{TableFault, damaged, unsupported, BlockReader, reader_of, DataEntry, data_block, record_in, is_set, user_separators, family_of, family_name_of, is_range_deletion, TableHead, head_with, Good, table_with, table_status}
+use Rattle.rk_bytes.specs.Model.LogMarks.{log_marks, blocks_marks, block_len, block_marks, found}
 use Rattle.rk_bytes.specs.Model.DiskImages.{Directory}
 use Rattle.rk_bytes.specs.Model.FileNames.{name_of, log_name, table_name, lost_name}
 use Rattle.rk_bytes.specs.Model.LogItems.{Item, rec, gap, end, log_items}
 use Rattle.rk_bytes.specs.Model.WriteBatch.{Batch, changes, batch_of}
 use Rattle.rk_bytes.specs.Model.VersionEdit.{Field, added_in, edit_fields}
+use Rattle.rk_bytes.specs.declared.model.view.Tomb.{Tomb}
+use Rattle.rk_bytes.specs.Model.KeyView.{State, tomb_of, is_covered}
 use Rattle.rk_bytes.specs.Model.Records.{Place, place_of, place_cmp, end_of, RecordMap, last_records}
 
 -- the value of an answer, or an empty list
@@ -409,6 +414,17 @@ tables_alone d = last_records (kept_records (tables_in (entries d)))
 unfoldable pub remainder : Directory → List Record
 remainder d = remainder_of (tables_in (entries d)) (logs_in (entries d))
 
+-- the range deletions among the records that are admitted, with no bounds that they are cut to
+abbrev pub uncut_tombs : Directory → List Tomb
+uncut_tombs d = map (tomb_of None) (filter (λ r. is_range_deletion r.kind) (values (salvage_records d)))
+
+-- The state is the salvage of the directory: it has the known families, the records that are admitted, and
+-- range deletions that cover just what those among the records cover uncut.
+pub record IsSalvage (state : State) (d : Directory) : Type 0 where
+  pub families : map (λ line. record { id = line.id; name = line.name }) state.families ≡ salvage_families d
+  pub records : state.records ≡ salvage_records d
+  pub tombs : (r : Record) → is_covered state.tombs r ≡ is_covered (uncut_tombs d) r
+
 -- the names below `lost/` for this name from the first on, as many as n and one more
 abbrev lost_names : List ℕ → ℕ → List (List ℕ)
 lost_names name zero = lost_name name 0 ∷ []
@@ -439,3 +455,88 @@ report files tables logs = let found = salvaged files tables logs in record {
 -- The report of a repair of the directory, or the refusal.
 unfoldable pub repair_report : Directory → Result Report SurveyErr
 repair_report d = of_files report (entries d)
+
+-- A table of two blocks, with `a` = `x` at sequence 1 and `b` = `y` at 2: the data blocks at 0 and 26, the
+-- metaindex at 52, the index at 65 and the footer at 106.
+first_block : List ℕ
+first_block = 0 ∷ 9 ∷ 1 ∷ codes "a" ++ 1 ∷ 1 ∷ 0 ∷ 0 ∷ 0 ∷ 0 ∷ 0 ∷ 0 ∷ codes "x" ++ 0 ∷ 0 ∷ 0 ∷ 0 ∷ 1 ∷ 0 ∷ 0 ∷ 0 ∷ 0 ∷ 0x84 ∷ 0xdd ∷ 0x88 ∷ 0x74 ∷ []
+
+second_block : List ℕ
+second_block = 0 ∷ 9 ∷ 1 ∷ codes "b" ++ 1 ∷ 2 ∷ 0 ∷ 0 ∷ 0 ∷ 0 ∷ 0 ∷ 0 ∷ codes "y" ++ 0 ∷ 0 ∷ 0 ∷ 0 ∷ 1 ∷ 0 ∷ 0 ∷ 0 ∷ 0 ∷ 0xf1 ∷ 0x23 ∷ 0xbf ∷ 0x4d ∷ []
+
+after_blocks : List ℕ
+after_blocks =
+    0 ∷ 0 ∷ 0 ∷ 0 ∷ 1 ∷ 0 ∷ 0 ∷ 0 ∷ 0 ∷ 0xc0 ∷ 0xf2 ∷ 0xa1 ∷ 0xb0
+    ∷ 0 ∷ 9 ∷ 2 ∷ codes "a" ++ 1 ∷ 1 ∷ 0 ∷ 0 ∷ 0 ∷ 0 ∷ 0 ∷ 0 ∷ 0 ∷ 21 ∷ 0 ∷ 9 ∷ 2 ∷ codes "b" ++ 1 ∷ 2 ∷ 0 ∷ 0 ∷ 0 ∷ 0 ∷ 0 ∷ 0 ∷ 26 ∷ 21 ∷ 0 ∷ 0 ∷ 0 ∷ 0 ∷ 1 ∷ 0 ∷ 0 ∷ 0 ∷ 0 ∷ 0x6b ∷ 0xfb ∷ 0x67 ∷ 0xa3
+    ∷ 52 ∷ 8 ∷ 65 ∷ 36 ∷ replicate 36 0 ++ 0x57 ∷ 0xfb ∷ 0x80 ∷ 0x8b ∷ 0x24 ∷ 0x75 ∷ 0x47 ∷ 0xdb ∷ []
+
+-- the part, computed
+part_computed : List ℕ → Option TablePart
+unfolding table_part readable_records footer_of checked_block crc32c crc_bytes crc_bits crc_bit block_entries entries_after index_entries
+part_computed table = table_part table
+
+-- a put of this value at a sequence number, in the default family
+put_of : List ℕ → ℕ → List ℕ → Record
+put_of key sequence value = record { family = 0; key = key; sequence = sequence; kind = Value; value = value }
+
+-- a byte of the first block changed: the second block is read
+with_a_block_changed : part_computed (take 12 first_block ++ 0x79 ∷ drop 13 first_block ++ second_block ++ after_blocks)
+    ≡ Some (record { family = 0; name = codes "default"; ranges = []; records = put_of (codes "b") 2 (codes "y") ∷ [] })
+unfolding part_computed first_block second_block after_blocks put_of
+with_a_block_changed = refl
+
+-- a byte of the index changed: there is no part
+with_the_index_changed : part_computed (first_block ++ second_block ++ take 13 after_blocks ++ 1 ∷ drop 14 after_blocks) ≡ None
+unfolding part_computed first_block second_block after_blocks
+with_the_index_changed = refl
+
+-- Both entries name the first block. It isn't above the first separator, and so its record is taken once.
+not_above_the_separator_before : readable_records (λ handle. Ok (take 21 first_block)) true None
+    (record { separator = codes "a"; block = record { offset = 0; size = 21 } } ∷ record { separator = codes "b"; block = record { offset = 0; size = 21 } } ∷ [])
+    ≡ record { key = codes "a" ++ 1 ∷ 1 ∷ 0 ∷ 0 ∷ 0 ∷ 0 ∷ 0 ∷ 0 ∷ []; parts = record { user = codes "a"; sequence = 1; kind = Value }; value = codes "x" } ∷ []
+unfolding readable_records block_entries entries_after first_block
+not_above_the_separator_before = refl
+
+-- a table of this number, with one record of the key `k`
+of_family : ℕ → ℕ → List ℕ → TableRecords
+of_family number family name = record { number = number; family = family; name = name; records = record { family = family; key = codes "k"; sequence = number; kind = Value; value = [] } ∷ [] }
+
+-- Table 5 has a known id under another name, 6 a known name under another id; a name that table 4 made known, too.
+of_contradictions : map (λ table. table.number) (agreeing first_families (of_family 4 2 (codes "two") ∷ of_family 5 0 (codes "zero") ∷ of_family 6 1 (codes "default") ∷ of_family 7 3 (codes "two") ∷ of_family 8 2 (codes "two") ∷ of_family 9 1 (codes "one") ∷ []))
+    ≡ 4 ∷ 8 ∷ 9 ∷ []
+unfolding agreeing of_family
+of_contradictions = refl
+
+-- the older of two logs, and a record of a family that isn't known
+of_two_logs : in_order (log_records first_families ((5, rec (2 ∷ 0 ∷ 0 ∷ 0 ∷ 0 ∷ 0 ∷ 0 ∷ 0 ∷ 2 ∷ 0 ∷ 0 ∷ 0 ∷ 1 ∷ 1 ∷ codes "b" ++ 1 ∷ codes "5" ++ 5 ∷ 7 ∷ 1 ∷ codes "c" ++ 0 ∷ []) 0 ∷ end Clean 27 ∷ []) ∷ (7, rec (2 ∷ 0 ∷ 0 ∷ 0 ∷ 0 ∷ 0 ∷ 0 ∷ 0 ∷ 1 ∷ 0 ∷ 0 ∷ 0 ∷ 1 ∷ 1 ∷ codes "b" ++ 1 ∷ codes "7") 0 ∷ end Torn 24 ∷ []) ∷ []))
+    ≡ put_of (codes "b") 2 (codes "7") ∷ []
+unfolding in_order place_cmp batch_of in_turn put_of
+of_two_logs = refl
+
+-- Of what is admitted the kept tables hold `a`, and `b` with another value.
+of_another_value : not_held (put_of (codes "a") 1 (codes "x") ∷ put_of (codes "b") 2 (codes "5") ∷ []) (put_of (codes "a") 1 (codes "x") ∷ put_of (codes "b") 2 (codes "7") ∷ []) ≡ put_of (codes "b") 2 (codes "7") ∷ []
+unfolding place_cmp put_of
+of_another_value = refl
+
+-- the lowest table comes before the lowest log
+of_unsupported_files : map (λ tables. refused_file tables ((3, end (Unsupported 9) 0 ∷ []) ∷ (5, rec (replicate 12 0 ++ 9 ∷ []) 0 ∷ []) ∷ [])) ([] ∷ (record { number = 6; size = 48; status = Err (unsupported Comparator); part = None } ∷ record { number = 8; size = 48; status = Err (unsupported External); part = None } ∷ []) ∷ [])
+    ≡ Some (UnsupportedLog 3 (RecordType 9)) ∷ Some (UnsupportedTable 6 Comparator) ∷ []
+unfolding batch_of in_turn
+of_unsupported_files = refl
+
+of_an_unsupported_tag : unsupported_in_log (5, gap Checksum 0 ∷ rec (replicate 12 0 ++ 0x10 ∷ []) 20 ∷ end (Unsupported 9) 40 ∷ []) ≡ Some (UnsupportedLog 5 (Tag 0x10))
+unfolding batch_of in_turn
+of_an_unsupported_tag = refl
+
+-- a manifest that adds table 8, a log 7, and a name that doesn't count
+greatest_of_a_listed_table : greatest_number ((codes "000007.log", []) ∷ (codes "MANIFEST-000002", 0x2d ∷ 0x09 ∷ 0xe6 ∷ 0xca ∷ 24 ∷ 0 ∷ 1 ∷ 7 ∷ 0 ∷ 8 ∷ 100 ∷ 9 ∷ codes "a" ++ 1 ∷ 1 ∷ 0 ∷ 0 ∷ 0 ∷ 0 ∷ 0 ∷ 0 ∷ 9 ∷ codes "a" ++ 1 ∷ 1 ∷ 0 ∷ 0 ∷ 0 ∷ 0 ∷ 0 ∷ 0 ∷ []) ∷ (codes "lost/000009.log", []) ∷ []) ≡ 8
+unfolding greatest_number numbered name_of digits log_marks blocks_marks block_len block_marks found crc32c crc_bytes crc_bits crc_bit edit_fields in_turn
+greatest_of_a_listed_table = refl
+
+of_a_taken_lost_name : free_lost_name (codes "000005.log") (codes "lost/000005.log" ∷ codes "000005.log" ∷ codes "lost/000005.log.2" ∷ []) ≡ codes "lost/000005.log.1"
+unfolding free_lost_name digits
+of_a_taken_lost_name = refl
+
+of_no_file : of_files report [] ≡ Ok (record { moved = []; families = 1; tables = 0; logs = 0; added = 0; archived = 0; records = 0 })
+unfolding of_files numbered greatest_number agreeing in_order moves place_cmp
+of_no_file = refl
