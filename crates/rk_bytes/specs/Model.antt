@@ -14,3 +14,5 @@ pub mod WriteBatch
 pub mod VersionEdit
 pub mod Manifest
 pub mod KeyView
+pub mod Replay
+pub mod Opening
