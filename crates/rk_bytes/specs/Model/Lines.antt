@@ -383,7 +383,7 @@ wal_why_words (wal_why.Batch why) = batch_fault_words why
 -- why logs aren't replayed. No definition gives want of memory.
 abbrev pub wal_err_words : WalErr → List ℕ
 wal_err_words (wal_err.Corrupt log place why) = codes "Corrupt" ++ then_number log ++ then_number place ++ codes " " ++ wal_why_words why
-wal_err_words (wal_err.FamilyAhead family log) = codes "FamilyAhead" ++ then_number family ++ then_number log
+wal_err_words (wal_err.FamilyAhead id log) = codes "FamilyAhead" ++ then_number id ++ then_number log
 wal_err_words (wal_err.UnsupportedLog log what) = unsupported_log_words log what
 wal_err_words wal_err.Memory = codes "Memory"
 

@@ -139,7 +139,7 @@ numbers_added _ = []
 unfoldable pub greatest_number : Files → ℕ
 greatest_number files =
     fold max 0 (filter_map (λ file. number_of_name (name_of file.0)) files
-        ++ flat_map (λ manifest. flat_map numbers_added (log_items 0 manifest.1)) (numbered manifest_number files))
+    ++ flat_map (λ manifest. flat_map numbers_added (log_items 0 manifest.1)) (numbered manifest_number files))
 
 -- A table's file as it is found: its status and, where it is damaged, what can be read of it.
 pub record TableFile : Type 0 where
@@ -216,7 +216,7 @@ contradicts known table =
 abbrev pub with_family_of : List FamilyName → TableRecords → List FamilyName
 with_family_of known table =
     filter (λ family. nat_lt family.id table.family) known
-        ++ record { id = table.family; name = table.name } ∷ filter (λ family. nat_lt table.family family.id) known
+    ++ record { id = table.family; name = table.name } ∷ filter (λ family. nat_lt table.family family.id) known
 
 -- the known families and those of tables
 abbrev pub with_families_of : List FamilyName → List TableRecords → List FamilyName
