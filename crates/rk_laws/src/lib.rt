@@ -19,5 +19,5 @@ pub use commands::one_command;
 pub use edit::one_edit;
 pub use internal_key::{key_order, key_round_trip};
 pub use log_items::one_parting;
-pub use numbers::{one_varint, varint_round_trip};
-pub use records::{last_of_appended, place_order};
+pub use numbers::{one_varint, shortest_varint, varint_round_trip, zigzag_round_trip};
+pub use records::{last_of_appended, slot_order};
