@@ -8,6 +8,7 @@ mod EditFiles
 mod EditTracked
 mod EntryLemmas
 mod InTurn
+mod ManifestUnits
 mod Orders
 mod PartingLemmas
 mod Readers

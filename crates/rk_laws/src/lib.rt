@@ -9,6 +9,7 @@ mod commands;
 mod edit;
 mod internal_key;
 mod log_items;
+mod manifest;
 mod numbers;
 mod records;
 
@@ -19,5 +20,6 @@ pub use commands::one_command;
 pub use edit::one_edit;
 pub use internal_key::{key_order, key_round_trip};
 pub use log_items::one_parting;
+pub use manifest::one_list_of_units;
 pub use numbers::{one_varint, varint_round_trip};
 pub use records::{last_of_appended, place_order};
