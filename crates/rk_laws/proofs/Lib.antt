@@ -3,9 +3,12 @@ mod BatchLemmas
 mod BlockLaw
 mod BlockLemmas
 mod DeltaLemmas
-mod EditLemmas
+mod EditFields
+mod EditFiles
+mod EditTracked
 mod EntryLemmas
 mod InTurn
+mod ManifestUnits
 mod Orders
 mod PartingLemmas
 mod Readers

@@ -9,6 +9,7 @@ mod commands;
 mod edit;
 mod internal_key;
 mod log_items;
+mod manifest;
 mod numbers;
 mod records;
 
@@ -21,3 +22,6 @@ pub use internal_key::{key_order, key_round_trip};
 pub use log_items::one_parting;
 pub use numbers::{one_varint, shortest_varint, varint_round_trip, zigzag_round_trip};
 pub use records::{last_of_appended, slot_order};
+pub use manifest::one_list_of_units;
+pub use numbers::{one_varint, varint_round_trip};
+pub use records::{last_of_appended, place_order};
