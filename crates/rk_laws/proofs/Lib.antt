@@ -12,4 +12,5 @@ mod Readers
 mod ReadingLemmas
 mod RecordMaps
 mod RestartLemmas
+mod SalvageLemmas
 mod Varints

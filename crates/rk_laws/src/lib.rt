@@ -11,6 +11,7 @@ mod internal_key;
 mod log_items;
 mod numbers;
 mod records;
+mod salvage;
 
 pub use batch::one_batch;
 pub use blocks::{one_block, one_delta_index};
@@ -21,3 +22,4 @@ pub use internal_key::{key_order, key_round_trip};
 pub use log_items::one_parting;
 pub use numbers::{one_varint, varint_round_trip};
 pub use records::{last_of_appended, place_order};
+pub use salvage::{nothing_to_add, records_in_order};
