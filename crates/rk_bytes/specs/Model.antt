@@ -14,5 +14,7 @@ pub mod WriteBatch
 pub mod VersionEdit
 pub mod Manifest
 pub mod KeyView
+pub mod Replay
+pub mod Opening
 pub mod Salvage
 pub mod Examples

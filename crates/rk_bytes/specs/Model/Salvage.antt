@@ -43,16 +43,13 @@ use Rattle.rk_bytes.specs.Model.WriteBatch.{Batch, changes, batch_of}
 use Rattle.rk_bytes.specs.Model.VersionEdit.{Field, added_in, edit_fields}
 use Rattle.rk_bytes.specs.declared.model.view.Tomb.{Tomb}
 use Rattle.rk_bytes.specs.Model.KeyView.{State, tomb_of, is_covered}
+use Rattle.rk_bytes.specs.Model.Opening.{in_order, range_record}
 use Rattle.rk_bytes.specs.Model.Records.{Place, place_of, place_cmp, end_of, RecordMap, last_records}
 
 -- the value of an answer, or an empty list
 abbrev pub list_or_none : {A F : Type 0} → Result (List A) F → List A
 list_or_none (Ok list) = list
 list_or_none (Err why) = []
-
--- a range deletion as a record of this family
-abbrev pub range_record : ℕ → RangeDel → Record
-range_record family range = record { family = family; key = range.start; sequence = range.sequence; kind = RangeDeletion; value = range.end }
 
 -- What can be read of a damaged table: its family, its range deletions, and records of some of its blocks.
 pub record TablePart : Type 0 where
@@ -118,15 +115,13 @@ abbrev pub is_lost : FileName → Bool
 is_lost Lost = true
 is_lost _ = false
 
--- the files with one more, where it has a number
-abbrev pub with_numbered : Option ℕ → List ℕ → List (ℕ × List ℕ) → List (ℕ × List ℕ)
-with_numbered None bytes files = files
-with_numbered (Some n) bytes files = put nat_cmp n bytes files
+-- a file with its number, if its name is of one kind
+abbrev pub with_number : (FileName → Option ℕ) → List ℕ × List ℕ → Option (ℕ × List ℕ)
+with_number number_in file = option_map (λ n. (n, file.1)) (number_in (name_of file.0))
 
 -- the files with names of one kind, each with its number, in rising number
 unfoldable pub numbered : (FileName → Option ℕ) → Files → List (ℕ × List ℕ)
-numbered number_in [] = []
-numbered number_in (file ∷ files) = with_numbered (number_in (name_of file.0)) file.1 (numbered number_in files)
+numbered number_in files = in_order (λ file. file.0) (filter_map (with_number number_in) files)
 
 abbrev pub numbers : List (ℕ × List ℕ) → List ℕ
 numbers files = map (λ file. file.0) files
@@ -279,8 +274,8 @@ placed (entry ∷ entries) = put place_cmp entry.0 entry.1 (placed entries)
 abbrev pub last_placed : List Record → List (Place × Record)
 last_placed records = placed (map (λ r. (place_of r, r)) (reverse records))
 
-abbrev pub in_order : List Record → List Record
-in_order records = map (λ entry. entry.1) (last_placed records)
+abbrev pub last_in_order : List Record → List Record
+last_in_order records = map (λ entry. entry.1) (last_placed records)
 
 -- one of the entries stands at the record's place and has its value
 abbrev pub is_held : List (Place × Record) → Record → Bool
@@ -288,7 +283,7 @@ is_held held r = option_map_or (λ other. bytes_eq other.value r.value) (find pl
 
 -- the last records of a list that those of another don't hold with the same value
 abbrev pub not_held : List Record → List Record → List Record
-not_held held records = filter (λ r. not (is_held (last_placed held) r)) (in_order records)
+not_held held records = filter (λ r. not (is_held (last_placed held) r)) (last_in_order records)
 
 -- The records that tables have to be added for, in the order of their places: those that the kept tables
 -- alone don't hold with the same value.
@@ -390,7 +385,7 @@ salvaged files tables logs = record {
 abbrev pub refusal : List TableFile → List (ℕ × List Item) → Option SurveyErr
 refusal tables logs = elim (refused_file tables logs) [
   | Some why ↦ Some why
-  | None ↦ too_large (known_families tables) (in_order (taken_records tables logs)) (remainder_of tables logs)
+  | None ↦ too_large (known_families tables) (last_in_order (taken_records tables logs)) (remainder_of tables logs)
 ]
 
 -- what is made of the files, unless the greatest number is too great, or something else is refused
@@ -459,7 +454,7 @@ report files tables logs = let found = salvaged files tables logs in record {
   logs = length found.logs;
   added = length (filter (λ family. list_any (λ r. r.family == family.id) found.remainder) found.families);
   archived = length found.archived;
-  records = length (in_order (taken_records tables logs));
+  records = length (last_in_order (taken_records tables logs));
 }
 
 -- The report of a repair of the directory, or the refusal.
@@ -518,7 +513,7 @@ unfolding agreeing of_family
 of_contradictions = refl
 
 -- Of two logs the later counts. A record of a family that isn't known is left out.
-of_two_logs : in_order (log_records first_families ((5, rec (2 ∷ 0 ∷ 0 ∷ 0 ∷ 0 ∷ 0 ∷ 0 ∷ 0 ∷ 2 ∷ 0 ∷ 0 ∷ 0 ∷ 1 ∷ 1 ∷ codes "b" ++ 1 ∷ codes "5" ++ 5 ∷ 7 ∷ 1 ∷ codes "c" ++ 0 ∷ []) 0 ∷ end Clean 27 ∷ []) ∷ (7, rec (2 ∷ 0 ∷ 0 ∷ 0 ∷ 0 ∷ 0 ∷ 0 ∷ 0 ∷ 1 ∷ 0 ∷ 0 ∷ 0 ∷ 1 ∷ 1 ∷ codes "b" ++ 1 ∷ codes "7") 0 ∷ end Torn 24 ∷ []) ∷ []))
+of_two_logs : last_in_order (log_records first_families ((5, rec (2 ∷ 0 ∷ 0 ∷ 0 ∷ 0 ∷ 0 ∷ 0 ∷ 0 ∷ 2 ∷ 0 ∷ 0 ∷ 0 ∷ 1 ∷ 1 ∷ codes "b" ++ 1 ∷ codes "5" ++ 5 ∷ 7 ∷ 1 ∷ codes "c" ++ 0 ∷ []) 0 ∷ end Clean 27 ∷ []) ∷ (7, rec (2 ∷ 0 ∷ 0 ∷ 0 ∷ 0 ∷ 0 ∷ 0 ∷ 0 ∷ 1 ∷ 0 ∷ 0 ∷ 0 ∷ 1 ∷ 1 ∷ codes "b" ++ 1 ∷ codes "7") 0 ∷ end Torn 24 ∷ []) ∷ []))
     ≡ put_of (codes "b") 2 (codes "7") ∷ []
 unfolding placed place_cmp batch_of in_turn put_of
 of_two_logs = refl

@@ -22,7 +22,7 @@ use Rattle.rk_bytes.specs.Model.TableStatus.{table_with, table_status}
 use Rattle.rk_bytes.specs.Model.WriteBatch.{batch_of}
 use Rattle.rk_bytes.specs.Model.Records.{place_cmp}
 use Rattle.rk_bytes.specs.Model.DiskImages.{Directory}
-use Rattle.rk_bytes.specs.Model.Salvage.{Files, readable_records, table_part, numbered, greatest_number, agreeing, placed, in_order, tables_in, logs_in, known_families, remainder_of, taken_records, of_files, free_lost_name, moves, report, repair_report}
+use Rattle.rk_bytes.specs.Model.Salvage.{Files, readable_records, table_part, numbered, greatest_number, agreeing, placed, last_in_order, tables_in, logs_in, known_families, remainder_of, taken_records, of_files, free_lost_name, moves, report, repair_report}
 
 -- a table of `a` = `x` at sequence 1
 good_table : List ℕ
@@ -56,7 +56,7 @@ computed files = of_files report files
 -- what is admitted, in order, and what of it is added to the tables
 admitted : Files → List Record
 unfolding numbered agreeing placed readable_records table_part table_status table_with footer_of checked_block internal_key block_entries entries_after index_entries place_cmp batch_of in_turn log_marks blocks_marks block_len block_marks found name_of digits crc32c crc_bytes crc_bits crc_bit
-admitted files = in_order (taken_records (tables_in files) (logs_in files))
+admitted files = last_in_order (taken_records (tables_in files) (logs_in files))
 
 added : Files → List Record
 unfolding numbered agreeing placed readable_records table_part table_status table_with footer_of checked_block internal_key block_entries entries_after index_entries place_cmp batch_of in_turn log_marks blocks_marks block_len block_marks found name_of digits crc32c crc_bytes crc_bits crc_bit
