@@ -18,3 +18,5 @@ pub mod Manifest
 pub mod KeyView
 pub mod Replay
 pub mod Opening
+pub mod Salvage
+pub mod Examples

@@ -15,4 +15,5 @@ mod Readers
 mod ReadingLemmas
 mod RecordMaps
 mod RestartLemmas
+mod SalvageLemmas
 mod Varints

@@ -12,6 +12,7 @@ mod log_items;
 mod manifest;
 mod numbers;
 mod records;
+mod salvage;
 
 pub use batch::one_batch;
 pub use blocks::{one_block, one_delta_index};
@@ -25,3 +26,4 @@ pub use records::{last_of_appended, slot_order};
 pub use manifest::one_list_of_units;
 pub use numbers::{one_varint, varint_round_trip};
 pub use records::{last_of_appended, place_order};
+pub use salvage::{nothing_to_add, records_in_order};

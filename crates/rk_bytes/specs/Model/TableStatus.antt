@@ -275,7 +275,7 @@ data_records block_of by_user before lower (at ∷ index) = do
   Ok (records ++ more)
 
 -- a data record as a record of its family
-abbrev record_in : ℕ → DataEntry → Record
+abbrev pub record_in : ℕ → DataEntry → Record
 record_in family entry = let parts = entry.parts in
     record { family = family; key = parts.user; sequence = parts.sequence; kind = parts.kind; value = entry.value }
 
@@ -322,15 +322,27 @@ good footer properties ranges index entries =
       records = map (record_in (family_of properties)) entries;
     }
 
--- what a table with this footer holds, or the first fault
-unfoldable pub table_with : BlockReader → Footer → Result Good TableFault
-table_with block_of footer = do
+-- What a table says beside its data blocks.
+pub record TableHead : Type 0 where
+  pub properties : List Property
+  pub ranges : List RangeDel
+  pub index : List IndexEntry
+
+-- what stands beside the data blocks of a table with this footer, or the first fault
+abbrev pub head_with : BlockReader → Footer → Result TableHead TableFault
+head_with block_of footer = do
   metas ← held block_of index_status whole_handles footer.metaindex
   properties ← list_of (properties_at block_of) (handle_named (codes "rocksdb.properties") metas)
   ranges ← list_of (held block_of range_status range_list) (handle_named (codes "rocksdb.range_del") metas)
   index ← index_at block_of properties footer.index
-  entries ← data_records block_of (is_set (user_separators properties)) None None index
-  Ok (good footer properties ranges index entries)
+  Ok (record { properties = properties; ranges = ranges; index = index })
+
+-- what a table with this footer holds, or the first fault
+unfoldable pub table_with : BlockReader → Footer → Result Good TableFault
+table_with block_of footer = do
+  head ← head_with block_of footer
+  entries ← data_records block_of (is_set (user_separators head.properties)) None None head.index
+  Ok (good footer head.properties head.ranges head.index entries)
 
 -- the status of a table: good, or the first fault
 unfoldable pub table_status : List ℕ → Result Good TableFault
