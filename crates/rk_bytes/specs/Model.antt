@@ -14,3 +14,4 @@ pub mod Records
 pub mod WriteBatch
 pub mod VersionEdit
 pub mod Manifest
+pub mod Writers
