@@ -2,13 +2,13 @@
 -- (table/block_based/block_builder.cc), tables (table/block_based/block_based_table_builder.cc,
 -- table/format.cc), version edits (db/version_edit.cc), and the manifest of a repaired directory, which is
 -- this project's own rule. What is read again from it, the definitions of the readers say.
-use Rattle.std.specs.Prelude.{◌≡◌, ℕ, ◌+◌, ◌-◌, ◌==◌, max, Bool, List, [], ◌∷◌, ◌++◌, length, map, flat_map, drop, fold, filter, reverse, replicate, sum_by, nat_eq, nat_le, if◌then◌else◌, Option, Some, None, unwrap_or, codes, refl}
+use Rattle.std.specs.Prelude.{◌≡◌, ℕ, ◌+◌, ◌-◌, ◌^◌, ◌==◌, max, Bool, List, [], ◌∷◌, ◌++◌, length, map, flat_map, drop, fold, filter, reverse, replicate, sum_by, nat_eq, nat_le, if◌then◌else◌, Option, Some, None, unwrap_or, codes, refl}
 use Rattle.std.specs.List.{common_prefix_len, concat, last_or, scan, zip}
 use Rattle.rk_bytes.specs.declared.model.block.Handle.{Handle}
 use Rattle.rk_bytes.specs.declared.model.block.RangeDel.{RangeDel}
 use Rattle.rk_bytes.specs.declared.model.edit.Seqs.{Seqs}
 use Rattle.rk_bytes.specs.declared.model.key.Kind.{Kind}
-use Rattle.rk_bytes.specs.declared.model.key.Kind.TheVariants.{Deletion, SingleDeletion}
+use Rattle.rk_bytes.specs.declared.model.key.Kind.TheVariants.{Deletion, Value, Merge, SingleDeletion, RangeDeletion}
 use Rattle.rk_bytes.specs.declared.model.key.Record.{Record}
 use Rattle.rk_bytes.specs.declared.model.table.SumKind.TheVariants.{Crc32c}
 use Rattle.rk_bytes.specs.Model.Numbers.{fixed_of, varint_of, prefixed_of}
@@ -243,3 +243,70 @@ repair_edits repaired = flat_map (family_edits repaired) repaired.families
 
 unfoldable pub repair_manifest : Repaired → List ℕ
 repair_manifest repaired = written_log None (map edit_bytes (repair_edits repaired))
+
+-- a record, whose sequence number is left to its batch
+of_kind : ℕ → Kind → List ℕ → List ℕ → Record
+of_kind id kind key value = record { family = id; key = key; sequence = 0; kind = kind; value = value }
+
+of_three_puts : batch_bytes 5 (of_kind 0 Value (codes "a") (codes "1") ∷ of_kind 0 Value (codes "b") (codes "2") ∷ of_kind 0 Value (codes "c") (codes "3") ∷ [])
+    ≡ 5 ∷ 0 ∷ 0 ∷ 0 ∷ 0 ∷ 0 ∷ 0 ∷ 0 ∷ 3 ∷ 0 ∷ 0 ∷ 0 ∷ 1 ∷ 1 ∷ 0x61 ∷ 1 ∷ 0x31 ∷ 1 ∷ 1 ∷ 0x62 ∷ 1 ∷ 0x32 ∷ 1 ∷
+    1 ∷ 0x63 ∷ 1 ∷ 0x33 ∷ []
+unfolding batch_bytes of_kind
+of_three_puts = refl
+
+of_each_kind : batch_bytes (2 ^ 56 - 9) (of_kind 0 Deletion (codes "a") [] ∷ of_kind 0 Merge (codes "b") (codes "x") ∷ of_kind 0 SingleDeletion (codes "c") [] ∷ of_kind 0 RangeDeletion (codes "d") (codes "e") ∷ of_kind 7 Deletion (codes "a") [] ∷ of_kind 300 Value [] [] ∷ of_kind 7 Merge (codes "b") (codes "x") ∷ of_kind 7 SingleDeletion (codes "c") [] ∷ of_kind 7 RangeDeletion (codes "d") (codes "e") ∷ [])
+    ≡ 0xF7 ∷ 0xFF ∷ 0xFF ∷ 0xFF ∷ 0xFF ∷ 0xFF ∷ 0xFF ∷ 0 ∷ 9 ∷ 0 ∷ 0 ∷ 0 ∷ 0 ∷ 1 ∷ 0x61 ∷ 2 ∷ 1 ∷ 0x62 ∷ 1 ∷
+    0x78 ∷ 7 ∷ 1 ∷ 0x63 ∷ 0x0F ∷ 1 ∷ 0x64 ∷ 1 ∷ 0x65 ∷ 4 ∷ 7 ∷ 1 ∷ 0x61 ∷ 5 ∷ 0xAC ∷ 2 ∷ 0 ∷ 0 ∷ 6 ∷ 7 ∷ 1 ∷
+    0x62 ∷ 1 ∷ 0x78 ∷ 8 ∷ 7 ∷ 1 ∷ 0x63 ∷ 0x0E ∷ 7 ∷ 1 ∷ 0x64 ∷ 1 ∷ 0x65 ∷ []
+unfolding batch_bytes of_kind
+of_each_kind = refl
+
+-- the data block of a table of `a` = `x` at sequence number 1, its index block, and a block of no entry
+of_one_put : block_bytes 16 ((internal_key (codes "a") 1 Value, codes "x") ∷ [])
+    ≡ 0 ∷ 9 ∷ 1 ∷ 0x61 ∷ 1 ∷ 1 ∷ 0 ∷ 0 ∷ 0 ∷ 0 ∷ 0 ∷ 0 ∷ 0x78 ∷ 0 ∷ 0 ∷ 0 ∷ 0 ∷ 1 ∷ 0 ∷ 0 ∷ 0 ∷ []
+unfolding block_bytes run_bytes grouped internal_key
+of_one_put = refl
+
+of_one_handle : block_bytes 1 ((internal_key (codes "a") 1 Value, handle_bytes (record { offset = 0; size = 21 })) ∷ [])
+    ≡ 0 ∷ 9 ∷ 2 ∷ 0x61 ∷ 1 ∷ 1 ∷ 0 ∷ 0 ∷ 0 ∷ 0 ∷ 0 ∷ 0 ∷ 0 ∷ 0x15 ∷ 0 ∷ 0 ∷ 0 ∷ 0 ∷ 1 ∷ 0 ∷ 0 ∷ 0 ∷ []
+unfolding block_bytes run_bytes grouped internal_key
+of_one_handle = refl
+
+of_no_entry : block_bytes 16 []
+    ≡ 0 ∷ 0 ∷ 0 ∷ 0 ∷ 1 ∷ 0 ∷ 0 ∷ 0 ∷ []
+unfolding block_bytes run_bytes grouped
+of_no_entry = refl
+
+-- five entries, of whose keys four share a front
+keys : List KeyValue
+keys = (codes "apple", codes "1") ∷ (codes "apply", []) ∷ (codes "apt", codes "23") ∷ (codes "apt", []) ∷ (codes "b", codes "4") ∷ []
+
+with_a_restart_at_each : block_bytes 1 keys
+    ≡ (0 ∷ 5 ∷ 1 ∷ []) ++ codes "apple1" ++ (0 ∷ 5 ∷ 0 ∷ []) ++ codes "apply" ++ (0 ∷ 3 ∷ 2 ∷ []) ++
+    codes "apt23" ++ 0 ∷ 3 ∷ 0 ∷ 0x61 ∷ 0x70 ∷ 0x74 ∷ 0 ∷ 1 ∷ 1 ∷ 0x62 ∷ 0x34 ∷ 0 ∷ 0 ∷ 0 ∷ 0 ∷ 9 ∷ 0 ∷ 0 ∷
+    0 ∷ 0x11 ∷ 0 ∷ 0 ∷ 0 ∷ 0x19 ∷ 0 ∷ 0 ∷ 0 ∷ 0x1F ∷ 0 ∷ 0 ∷ 0 ∷ 5 ∷ 0 ∷ 0 ∷ 0 ∷ []
+unfolding block_bytes run_bytes grouped keys
+with_a_restart_at_each = refl
+
+with_a_restart_at_each_second : block_bytes 2 keys
+    ≡ (0 ∷ 5 ∷ 1 ∷ []) ++ codes "apple1" ++ (4 ∷ 1 ∷ 0 ∷ 0x79 ∷ 0 ∷ 3 ∷ 2 ∷ []) ++ codes "apt23" ++ 3 ∷ 0 ∷
+    0 ∷ 0 ∷ 1 ∷ 1 ∷ 0x62 ∷ 0x34 ∷ 0 ∷ 0 ∷ 0 ∷ 0 ∷ 0x0D ∷ 0 ∷ 0 ∷ 0 ∷ 0x18 ∷ 0 ∷ 0 ∷ 0 ∷ 3 ∷ 0 ∷ 0 ∷ 0 ∷ []
+unfolding block_bytes run_bytes grouped keys
+with_a_restart_at_each_second = refl
+
+with_one_restart : block_bytes 16 keys
+    ≡ (0 ∷ 5 ∷ 1 ∷ []) ++ codes "apple1" ++ 4 ∷ 1 ∷ 0 ∷ 0x79 ∷ 2 ∷ 1 ∷ 2 ∷ 0x74 ∷ 0x32 ∷ 0x33 ∷ 3 ∷ 0 ∷ 0 ∷
+    0 ∷ 1 ∷ 1 ∷ 0x62 ∷ 0x34 ∷ 0 ∷ 0 ∷ 0 ∷ 0 ∷ 1 ∷ 0 ∷ 0 ∷ 0 ∷ []
+unfolding block_bytes run_bytes grouped keys
+with_one_restart = refl
+
+at_every_sixteenth : map length (entry_runs 16 (replicate 33 ([], [])))
+    ≡ 16 ∷ 16 ∷ 1 ∷ []
+unfolding block_bytes run_bytes grouped
+at_every_sixteenth = refl
+
+with_long_lengths : block_bytes 2 ((replicate 200 7, []) ∷ (replicate 201 7, replicate 128 9) ∷ [])
+    ≡ (0 ∷ 0xC8 ∷ 1 ∷ 0 ∷ []) ++ replicate 200 7 ++ (0xC8 ∷ 1 ∷ 1 ∷ 0x80 ∷ 1 ∷ 7 ∷ []) ++ replicate 128 9 ++
+    0 ∷ 0 ∷ 0 ∷ 0 ∷ 1 ∷ 0 ∷ 0 ∷ 0 ∷ []
+unfolding block_bytes run_bytes grouped
+with_long_lengths = refl
