@@ -15,3 +15,4 @@ pub mod WriteBatch
 pub mod VersionEdit
 pub mod Manifest
 pub mod Writers
+pub mod Examples
