@@ -3,7 +3,9 @@ mod BatchLemmas
 mod BlockLaw
 mod BlockLemmas
 mod DeltaLemmas
-mod EditLemmas
+mod EditFields
+mod EditFiles
+mod EditTracked
 mod EntryLemmas
 mod InTurn
 mod Orders
