@@ -15,4 +15,5 @@ pub mod WriteBatch
 pub mod VersionEdit
 pub mod Manifest
 pub mod Writers
+pub mod Drill
 pub mod Examples

@@ -16,7 +16,7 @@ use Rattle.rk_bytes.specs.Model.Checksums.{block_sum}
 use Rattle.rk_bytes.specs.Model.InternalKey.{internal_key, bytewise_name}
 use Rattle.rk_bytes.specs.Model.TableFooter.{newer_magic}
 use Rattle.rk_bytes.specs.Model.TableStatus.{start_key}
-use Rattle.rk_bytes.specs.Model.VersionEdit.{Field, NewFile, comparator, log_number, next_file, last_sequence, compact_cursor, delete_file, add_file, previous_log, least_log, family, family_add, family_drop, greatest_family, group, ignored}
+use Rattle.rk_bytes.specs.Model.VersionEdit.{Field, NewFile, comparator, log_number, next_file, last_sequence, compact_cursor, delete_file, add_file, previous_log, least_log, family, family_add, family_drop, greatest_family, group, wal_add, wal_delete, ignored}
 use Rattle.rk_bytes.specs.Model.WriteBatch.{plain_tag, family_tag}
 use Rattle.rk_bytes.specs.Model.WrittenLogs.{written_log}
 
@@ -183,7 +183,12 @@ abbrev pub added_file_bytes : NewFile → Option Seqs → List ℕ
 added_file_bytes file None = varint_of 7 ++ file_bytes file
 added_file_bytes file (Some seqs) = varint_of 103 ++ file_bytes file ++ varint_of seqs.least ++ varint_of seqs.greatest ++ varint_of 1
 
--- a field of a version edit: its tag and its value
+-- a tracked log: its number, its synced size after the tag 2 where there is one, and the tag 1
+abbrev pub tracked_bytes : ℕ → Option ℕ → List ℕ
+tracked_bytes log None = varint_of log ++ varint_of 1
+tracked_bytes log (Some synced) = varint_of log ++ varint_of 2 ++ varint_of synced ++ varint_of 1
+
+-- A field of a version edit: its tag and its value. An ignored field is never written.
 abbrev pub field_bytes : Field → List ℕ
 field_bytes (comparator name) = varint_of 1 ++ prefixed_of name
 field_bytes (log_number n) = varint_of 2 ++ varint_of n
@@ -199,6 +204,8 @@ field_bytes (family_add name) = varint_of 201 ++ prefixed_of name
 field_bytes family_drop = varint_of 202
 field_bytes (greatest_family id) = varint_of 203 ++ varint_of id
 field_bytes (group left) = varint_of 300 ++ varint_of left
+field_bytes (wal_add log synced) = varint_of 8199 ++ prefixed_of (tracked_bytes log synced)
+field_bytes (wal_delete log) = varint_of 8200 ++ prefixed_of (varint_of log)
 field_bytes (ignored tag value) = varint_of tag ++ prefixed_of value
 
 -- a version edit of these fields

@@ -9,7 +9,7 @@ use Rattle.rk_bytes.specs.declared.model.key.Record.{Record}
 use Rattle.rk_bytes.specs.Model.Checksums.{crc_bit, crc_bits, crc_bytes, crc32c, pieces}
 use Rattle.rk_bytes.specs.Model.InternalKey.{internal_key, bytewise_name}
 use Rattle.rk_bytes.specs.Model.LogMarks.{block_len}
-use Rattle.rk_bytes.specs.Model.VersionEdit.{NewFile, comparator, log_number, next_file, last_sequence, compact_cursor, delete_file, add_file, previous_log, least_log, family, family_add, family_drop, greatest_family, group}
+use Rattle.rk_bytes.specs.Model.VersionEdit.{NewFile, comparator, log_number, next_file, last_sequence, compact_cursor, delete_file, add_file, previous_log, least_log, family, family_add, family_drop, greatest_family, group, wal_add, wal_delete}
 use Rattle.rk_bytes.specs.Model.WrittenLogs.{fragment_bytes, record_fragments, record_pieces, written_record, written_log}
 use Rattle.rk_bytes.specs.Model.Writers.{TableContents, RepairedFamily, grouped, run_bytes, block_bytes, data_groups, table_bytes, edit_bytes, repair_manifest}
 
@@ -145,6 +145,11 @@ of_other_fields : edit_bytes (compact_cursor 2 put_a ∷ delete_file 255 300 ∷
     0x0F ∷ 0xC9 ∷ 1 ∷ 1 ∷ 0x66 ∷ 0xCB ∷ 1 ∷ 0x80 ∷ 1 ∷ 0xAC ∷ 2 ∷ 0 ∷ 0xCA ∷ 1 ∷ []
 unfolding edit_bytes put_a internal_key
 of_other_fields = refl
+
+of_tracked_logs : edit_bytes (wal_add 3 (Some 48) ∷ wal_add 300 None ∷ wal_delete 4 ∷ [])
+    ≡ 0x87 ∷ 0x40 ∷ 4 ∷ 3 ∷ 2 ∷ 0x30 ∷ 1 ∷ 0x87 ∷ 0x40 ∷ 3 ∷ 0xAC ∷ 2 ∷ 1 ∷ 0x88 ∷ 0x40 ∷ 1 ∷ 4 ∷ []
+unfolding edit_bytes
+of_tracked_logs = refl
 
 -- the default family of a repaired directory
 default_family : List NewFile → RepairedFamily
