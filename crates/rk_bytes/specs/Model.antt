@@ -2,6 +2,7 @@ pub mod Numbers
 pub mod Checksums
 pub mod LogMarks
 pub mod LogItems
+pub mod WrittenLogs
 pub mod FileNames
 pub mod DiskImages
 pub mod BlockEntries
@@ -19,4 +20,6 @@ pub mod KeyView
 pub mod Replay
 pub mod Opening
 pub mod Salvage
+pub mod Writers
+pub mod Drill
 pub mod Examples

@@ -1,1 +1,3 @@
 pub mod Salvage
+pub mod Drill
+pub mod Writers
