@@ -38,7 +38,8 @@ dump_wal_output n (Some bytes) = record { lines = map item_line (log_items n byt
 
 abbrev pub command_output : Option Command → Directory → Output
 command_output None d = record { lines = usage_line ∷ []; status = Usage }
-command_output (Some (dump_wal n)) d = dump_wal_output n (get d (log_name n))
+command_output (Some (dump_wal n hex)) d = dump_wal_output n (get d (log_name n))
+command_output (Some _) d = record { lines = []; status = Done }
 
 -- what the program writes for these words over the directory
 abbrev pub output : List (List ℕ) → Directory → Output
