@@ -1,2 +1,4 @@
 -- Lemmas that the proofs of callers cite.
 pub mod CommandLemmas
+mod VarintLemmas
+mod VarintWriting
