@@ -1,3 +1,3 @@
-pub mod Salvage
 pub mod Drill
+pub mod Salvage
 pub mod Writers
