@@ -6,6 +6,7 @@ use Rattle.rk_bytes.specs.declared.model.status.Status.{Status}
 use Rattle.rk_bytes.specs.declared.model.status.Status.TheVariants.{Done, Refused, Usage, DiskFault, SinkFault, Memory, NotFound}
 use Rattle.rk_bytes.specs.Model.DiskImages.{Directory}
 use Rattle.rk_bytes.specs.Model.FileNames.{log_name}
+use Rattle.rk_bytes.specs.Model.Checksums.{pieces}
 use Rattle.rk_bytes.specs.Model.LogMarks.{blocks_marks, block_len, log_marks}
 use Rattle.rk_bytes.specs.Model.LogItems.{log_items}
 use Rattle.rk_bytes.specs.Model.Grammar.{Command, dump_wal, command_of}
@@ -58,7 +59,7 @@ abbrev pub TookFront : Option (List ℕ) → Option (List ℕ) → List ℕ → 
 TookFront before after bytes = (n : ℕ) × Took before after (take n bytes)
 
 of_an_empty_log : dump_wal_output 3 (Some []) ≡ record { lines = line (codes "end 0 Clean") ∷ []; status = Done }
-unfolding log_marks blocks_marks block_len digits
+unfolding log_marks blocks_marks block_len pieces digits
 of_an_empty_log = refl
 
 of_no_log : dump_wal_output 3 None ≡ record { lines = line (codes "refused: NoLog 3") ∷ []; status = Refused }

@@ -1,7 +1,7 @@
 use Rattle.std.proofs.Common.{◌≡◌, ◌∙◌, arith, length-drop, take, drop, length, ◌-◌}
 use Rattle.std.proofs.lemmas.List.{take_all}
-use Rattle.rk_log.proofs.Registers.{front_taken}
-use Rattle.rk_log.proofs.sum.after_bytes.Goals as goal
+use Rattle.rk_sum.proofs.Registers.{front_taken}
+use Rattle.rk_sum.proofs.crc.after_bytes.Goals as goal
 
 pub loop-rest-preserved : goal.loop-rest-preserved
 loop-rest-preserved c =

@@ -1,7 +1,7 @@
 use Rattle.std.proofs.Common.{◌≡◌, ℕ, ◌+◌, ◌*◌, ◌/◌, ◌%◌, ◌^◌, ◌<◌, refl, arith}
 use Rattle.std.proofs.lemmas.Nat.{or_comm, or_shifted}
 use Rattle.std.specs.Int.{rotate_right, w32}
-use Rattle.rk_log.proofs.sum.mask.Goals as goal
+use Rattle.rk_sum.proofs.masked.mask.Goals as goal
 
 rotated : (n : ℕ) → n < 2 ^ 32 → rotate_right w32 n 15 ≡ n / 2 ^ 15 + n % 2 ^ 15 * 2 ^ 17
 rotated n h =

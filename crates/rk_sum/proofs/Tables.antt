@@ -4,8 +4,8 @@ use Rattle.std.specs.List.{range_with_len}
 use Rattle.std.proofs.lemmas.List.{get_or-map, length-map}
 use Rattle.std.proofs.lemmas.List.FromFn.{get_or-range_with_len, length-range_with_len}
 use Rattle.rk_bytes.specs.Model.Checksums.{crc_bit, crc_bits}
-use Rattle.rk_log.specs.declared.sum.tables.TheConstants.{TABLES}
-use Rattle.rk_log.proofs.Registers.{crc_bits-add}
+use Rattle.rk_sum.specs.declared.crc.tables.TheConstants.{TABLES}
+use Rattle.rk_sum.proofs.Registers.{crc_bits-add}
 
 -- as many rows, each a byte of zeros after the one before
 unfoldable rows : ℕ → List ℕ → List (List ℕ)

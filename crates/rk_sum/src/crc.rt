@@ -1,13 +1,10 @@
-//! The checksum of log records: CRC32C, and what is stored in its place.
+//! CRC32C, eight bytes at a time by tables.
 ghost use Rattle.std.specs.Prelude.{◌≡◌, ◌+◌, ◌*◌, ◌<◌, ◌≤◌};
-ghost use Rattle.rk_bytes.specs.Model.Checksums.{crc_bits, crc_bytes, crc32c, mask};
+ghost use Rattle.rk_bytes.specs.Model.Checksums.{crc_bits, crc_bytes, crc32c, crc32c_extended};
 
 mod tables;
 
 use tables::TABLES;
-
-/// What a rotated sum is raised by.
-const MASK_DELTA: u32 = 0xA282_EAD8;
 
 /// The CRC32C of the bytes (polynomial 0x1EDC6F41, reflected).
 #[tactic(auto, unfolding(rk_bytes::specs::Model::Checksums::crc32c))]
@@ -17,12 +14,12 @@ pub fn crc32c(bytes: &[u8]) -> u32
     after_bytes(0xFFFF_FFFF, bytes) ^ 0xFFFF_FFFF
 }
 
-/// What is stored in place of a sum (`util/crc32c.h`), since the sum of bytes that contain sums
-/// themselves is a weak check.
-pub fn mask(sum: u32) -> u32
-    ensures { result ≡ mask sum }
+/// The CRC32C of a front, whose sum is `crc`, and of the bytes after it.
+#[tactic(auto, unfolding(rk_bytes::specs::Model::Checksums::crc32c_extended))]
+pub fn crc32c_extend(crc: u32, bytes: &[u8]) -> u32
+    ensures { result ≡ crc32c_extended crc bytes.now }
 {
-    sum.rotate_right(15).wrapping_add(MASK_DELTA)
+    after_bytes(crc ^ 0xFFFF_FFFF, bytes) ^ 0xFFFF_FFFF
 }
 
 /// The register after these bytes, taken eight at a time.
@@ -83,28 +80,4 @@ fn after_byte(byte: u8, zeros: usize) -> u32
     ensures { result ≡ crc_bits (8 * (zeros + 1)) byte }
 {
     TABLES[zeros][byte as usize]
-}
-
-#[cfg(test)]
-mod tests {
-    use super::*;
-
-    #[test]
-    fn known_sums(rt: HostRuntime) {
-        let mut counting = [0u8; 255];
-        for i in 0..255u8 {
-            counting[i as usize] = i;
-        }
-        let cases: [(&[u8], u32); 5] = [
-            (b"", 0),
-            (b"123456789", 0xE306_9283),
-            (&[0; 32], 0x8A91_36AA),
-            (&[0xFF; 32], 0x62A8_AB43),
-            (&counting, 0x8953_C482),
-        ];
-        for (bytes, sum) in cases {
-            assert_eq!(rt; crc32c(bytes), sum, "of {bytes:?}");
-        }
-        assert_eq!(rt; mask(0xE306_9283), 0xC78A_B0E5);
-    }
 }

@@ -1,6 +1,6 @@
 use Rattle.std.proofs.Common.{rules}
-use Rattle.rk_log.proofs.Registers.{eight_taken}
-use Rattle.rk_log.proofs.sum.after_eight.Goals as goal
+use Rattle.rk_sum.proofs.Registers.{eight_taken}
+use Rattle.rk_sum.proofs.crc.after_eight.Goals as goal
 
 pub returns : goal.returns
 returns c =

@@ -1,5 +1,5 @@
-use Rattle.rk_log.proofs.Registers.{crc_bits_by_bytes}
-use Rattle.rk_log.proofs.sum.after_word.Goals as goal
+use Rattle.rk_sum.proofs.Registers.{crc_bits_by_bytes}
+use Rattle.rk_sum.proofs.crc.after_word.Goals as goal
 
 pub returns : goal.returns
 returns c =

@@ -1,8 +1,8 @@
 use Rattle.std.proofs.Common.{◌∙◌}
 use Rattle.std.proofs.lemmas.List.{drop_all}
 use Rattle.rk_bytes.specs.Model.Checksums.{crc_bytes}
-use Rattle.rk_log.proofs.Registers.{byte_taken, byte_more}
-use Rattle.rk_log.proofs.sum.after_few.Goals as goal
+use Rattle.rk_sum.proofs.Registers.{byte_taken, byte_more}
+use Rattle.rk_sum.proofs.crc.after_few.Goals as goal
 
 pub loop-byte-preserved : goal.loop-byte-preserved
 loop-byte-preserved c =
