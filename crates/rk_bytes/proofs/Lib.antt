@@ -14,3 +14,5 @@ pub mod InTurn
 pub mod Varints
 pub mod Orders
 pub mod RecordMaps
+pub mod DiskLemmas
+pub mod DiskLaw

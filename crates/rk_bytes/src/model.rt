@@ -3,6 +3,7 @@
 
 mod batch;
 mod block;
+mod disk_laws;
 mod edit;
 mod key;
 mod laws;
@@ -15,6 +16,9 @@ mod table;
 
 pub use batch::BatchFault;
 pub use block::{BlockFault, Handle, IndexEntry, IndexFault, Property, RangeDel, RangeFault};
+pub use disk_laws::{
+    contents_at_rest, image_of_an_image, images_of_synced_names, one_image_at_rest,
+};
 pub use edit::{EditFault, Seqs};
 pub use key::{KeyFault, Kind, Record};
 pub use laws::{
