@@ -3,6 +3,7 @@ mod BatchLemmas
 mod BlockLaw
 mod BlockLemmas
 mod DeltaLemmas
+mod DiskLaw
 mod EditFields
 mod EditFiles
 mod EditTracked
