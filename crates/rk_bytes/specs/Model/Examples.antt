@@ -1,1 +1,3 @@
+pub mod Drill
 pub mod Salvage
+pub mod Writers

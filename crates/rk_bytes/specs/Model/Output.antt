@@ -1,7 +1,7 @@
 -- What a command writes over a directory, and how it ends. All of it is this project's own rule.
 use Rattle.std.specs.Prelude.{◌≡◌, ℕ, ◌-◌, ◌^◌, min, sum, Bool, false, List, [], ◌∷◌, ◌++◌, length, map, flat_map, take, Option, Some, None, option_map, unwrap_or, ok_or, Result, Ok, Err, codes, refl}
 use Rattle.std.specs.Fmt.{digits}
-use Rattle.std.specs.FinMap.{get as file_named, empty}
+use Rattle.std.specs.FinMap.{get as file_named}
 use Rattle.rk_bytes.specs.declared.model.status.Status.{Status}
 use Rattle.rk_bytes.specs.declared.model.status.Status.TheVariants.{Done, Refused, Usage, DiskFault, SinkFault, Memory, NotFound}
 use Rattle.rk_bytes.specs.declared.model.command.How.{How}
@@ -16,21 +16,20 @@ use Rattle.rk_bytes.specs.declared.model.salvage.Report.{Report}
 use Rattle.rk_bytes.specs.Model.Numbers.{◌>>=◌}
 use Rattle.rk_bytes.specs.Model.DiskImages.{Directory}
 use Rattle.rk_bytes.specs.Model.FileNames.{log_name, table_name, manifest_name}
+use Rattle.rk_bytes.specs.Model.Checksums.{pieces}
 use Rattle.rk_bytes.specs.Model.LogMarks.{blocks_marks, block_len, log_marks}
 use Rattle.rk_bytes.specs.Model.LogItems.{Item, rec, log_items}
 use Rattle.rk_bytes.specs.Model.TableStatus.{Good, table_status}
 use Rattle.rk_bytes.specs.Model.KeyView.{State, Answer, absent, answer, rows, family_named, record_count, key_count}
 use Rattle.rk_bytes.specs.Model.Opening.{Files, Best, named_manifest, version_in, open_directory}
 use Rattle.rk_bytes.specs.Model.Salvage.{salvage_families, salvage_records, uncut_tombs, repair_report}
+use Rattle.rk_bytes.specs.Model.Drill.{drill_directory}
 use Rattle.rk_bytes.specs.Model.Grammar.{KeyWord, key_bytes, Command, scan, get, families, manifest_dump, dump_wal, check, repair, sst, drill, all_modes, command_of}
 use Rattle.rk_bytes.specs.Model.Lines.{line, item_line, batch_lines, edit_lines, family_line, row_line, answer_line, manifest_line, point_line, ok_line, count_words, mode_line, best_line, drill_line, moved_line, repaired_line, good_line, entry_line, range_line, property_line, table_fault_words, open_err_words, survey_err_words, no_log_words, no_table_words, no_family_words, refused_words, refusal_line, usage_line}
 
--- Not written yet: what best efforts open, and the directory of a drill.
+-- Not written yet: what best efforts open.
 abbrev best_directory : Directory → Result Best OpenErr
 best_directory d = Err NoUsableManifest
-
-abbrev drill_directory : ℕ → Directory
-drill_directory n = empty
 
 -- lines, each with its newline, and the status
 pub record Output : Type 0 where
@@ -207,7 +206,7 @@ abbrev pub TookFront : Option (List ℕ) → Option (List ℕ) → List ℕ → 
 TookFront before after bytes = (n : ℕ) × Took before after (take n bytes)
 
 of_an_empty_log : dump_wal_output 3 false (Some []) ≡ record { lines = line (codes "end 0 Clean") ∷ []; status = Done }
-unfolding log_marks blocks_marks block_len digits
+unfolding log_marks pieces blocks_marks block_len digits
 of_an_empty_log = refl
 
 of_no_log : dump_wal_output 3 false None ≡ record { lines = line (codes "refused: NoLog 3") ∷ []; status = Refused }

@@ -1,13 +1,14 @@
 -- Salvage: the records that a directory's tables and logs still hold, whatever its manifests say
 -- (RocksDB's wiki, "RocksDB Repairer"; db/repair.cc). What is taken and in which order, and the refusals, are
 -- this project's own rules.
-use Rattle.std.specs.Prelude.{◌≡◌, ℕ, zero, suc, ◌+◌, ◌^◌, Bool, true, false, not, ◌&&◌, ◌||◌, List, [], ◌∷◌, ◌++◌, length, map, flat_map, filter, filter_map, find, fold, min, max, sum_by, replicate, take, drop, slice_get, nat_lt, nat_le, ◌==◌, if◌then◌else◌, Option, Some, None, option_map, unwrap_or, Result, Ok, Err, bytes_eq, codes, refl}
-use Rattle.std.specs.List.{list_any, reduce}
+use Rattle.std.specs.Prelude.{◌≡◌, ℕ, zero, suc, ◌+◌, ◌^◌, Bool, true, false, not, ◌&&◌, ◌||◌, List, [], ◌∷◌, ◌++◌, length, map, flat_map, filter, filter_map, reverse, fold, min, max, sum_by, replicate, take, drop, slice_get, nat_lt, nat_le, ◌==◌, if◌then◌else◌, Option, Some, None, option_map, unwrap_or, Result, Ok, Err, bytes_eq, codes, refl}
+use Rattle.std.specs.List.{list_any, reduce, find as first_that}
 use Rattle.std.specs.Fmt.{digits}
-use Rattle.std.specs.Ordering.{nat_cmp, eq_by_cmp}
+use Rattle.std.specs.Ordering.{nat_cmp}
 use Rattle.std.specs.Cmp.Lexicographic.{slice_cmp}
 use Rattle.std.specs.FinMap.{entries, values}
-use Rattle.std.specs.FinMap.Entries.{put}
+use Rattle.std.specs.FinMap.Entries.{put, find}
+use Rattle.std.specs.Option.{option_map_or}
 use Rattle.rk_bytes.specs.declared.model.log.EndKind.TheVariants.{Clean, Torn, Unsupported}
 use Rattle.rk_bytes.specs.declared.model.key.Kind.TheVariants.{Deletion, Value, RangeDeletion}
 use Rattle.rk_bytes.specs.declared.model.key.Record.{Record}
@@ -42,16 +43,13 @@ use Rattle.rk_bytes.specs.Model.WriteBatch.{Batch, changes, batch_of}
 use Rattle.rk_bytes.specs.Model.VersionEdit.{Field, added_in, edit_fields}
 use Rattle.rk_bytes.specs.declared.model.view.Tomb.{Tomb}
 use Rattle.rk_bytes.specs.Model.KeyView.{State, tomb_of, is_covered}
+use Rattle.rk_bytes.specs.Model.Opening.{in_order, range_record}
 use Rattle.rk_bytes.specs.Model.Records.{Place, place_of, place_cmp, end_of, RecordMap, last_records}
 
 -- the value of an answer, or an empty list
 abbrev pub list_or_none : {A F : Type 0} → Result (List A) F → List A
 list_or_none (Ok list) = list
 list_or_none (Err why) = []
-
--- a range deletion as a record of this family
-abbrev pub range_record : ℕ → RangeDel → Record
-range_record family range = record { family = family; key = range.start; sequence = range.sequence; kind = RangeDeletion; value = range.end }
 
 -- What can be read of a damaged table: its family, its range deletions, and records of some of its blocks.
 pub record TablePart : Type 0 where
@@ -117,15 +115,13 @@ abbrev pub is_lost : FileName → Bool
 is_lost Lost = true
 is_lost _ = false
 
--- the files with one more, where it has a number
-abbrev pub with_numbered : Option ℕ → List ℕ → List (ℕ × List ℕ) → List (ℕ × List ℕ)
-with_numbered None bytes files = files
-with_numbered (Some n) bytes files = put nat_cmp n bytes files
+-- a file with its number, if its name is of one kind
+abbrev pub with_number : (FileName → Option ℕ) → List ℕ × List ℕ → Option (ℕ × List ℕ)
+with_number number_in file = option_map (λ n. (n, file.1)) (number_in (name_of file.0))
 
 -- the files with names of one kind, each with its number, in rising number
 unfoldable pub numbered : (FileName → Option ℕ) → Files → List (ℕ × List ℕ)
-numbered number_in [] = []
-numbered number_in (file ∷ files) = with_numbered (number_in (name_of file.0)) file.1 (numbered number_in files)
+numbered number_in files = in_order (λ file. file.0) (filter_map (with_number number_in) files)
 
 abbrev pub numbers : List (ℕ × List ℕ) → List ℕ
 numbers files = map (λ file. file.0) files
@@ -268,22 +264,31 @@ kept_records tables = all_records (kept_tables tables)
 abbrev pub taken_records : List TableFile → List (ℕ × List Item) → List Record
 taken_records tables logs = all_records (partly_read tables) ++ (kept_records tables ++ log_records (known_families tables) logs)
 
--- the last record at each place in the list, in the order of the places: what `last_records` holds
-unfoldable pub in_order : List Record → List Record
-in_order records = map (λ entry. entry.1) (fold (λ placed r. put place_cmp (place_of r) r placed) [] records)
+-- Entries in the order of their places. Of two at one place the first counts.
+unfoldable pub placed : List (Place × Record) → List (Place × Record)
+placed [] = []
+placed (entry ∷ entries) = put place_cmp entry.0 entry.1 (placed entries)
 
--- two records stand at one place and have one value
-abbrev pub is_same_record : Record → Record → Bool
-is_same_record a b = eq_by_cmp place_cmp (place_of a) (place_of b) && bytes_eq a.value b.value
+-- The last record at each place in the list, in the order of the places: the entries of `last_records` (law
+-- `records_in_order`).
+abbrev pub last_placed : List Record → List (Place × Record)
+last_placed records = placed (map (λ r. (place_of r, r)) (reverse records))
+
+abbrev pub last_in_order : List Record → List Record
+last_in_order records = map (λ entry. entry.1) (last_placed records)
+
+-- one of the entries stands at the record's place and has its value
+abbrev pub is_held : List (Place × Record) → Record → Bool
+is_held held r = option_map_or (λ other. bytes_eq other.value r.value) (find place_cmp (place_of r) held) false
 
 -- the last records of a list that those of another don't hold with the same value
 abbrev pub not_held : List Record → List Record → List Record
-not_held held records = filter (λ r. not (list_any (is_same_record r) held)) records
+not_held held records = filter (λ r. not (is_held (last_placed held) r)) (last_in_order records)
 
 -- The records that tables have to be added for, in the order of their places: those that the kept tables
 -- alone don't hold with the same value.
 abbrev pub remainder_of : List TableFile → List (ℕ × List Item) → List Record
-remainder_of tables logs = not_held (in_order (kept_records tables)) (in_order (taken_records tables logs))
+remainder_of tables logs = not_held (kept_records tables) (taken_records tables logs)
 
 abbrev pub unsupported_in_table : TableFile → Option SurveyErr
 unsupported_in_table table = elim table.status [
@@ -328,7 +333,7 @@ is_too_large records remainder family =
 
 -- the lowest family that would be too large
 abbrev pub too_large : List FamilyName → List Record → List Record → Option SurveyErr
-too_large families records remainder = option_map (λ family. FamilyTooLarge family.id) (find (is_too_large records remainder) families)
+too_large families records remainder = option_map (λ family. FamilyTooLarge family.id) (first_that (is_too_large records remainder) families)
 
 -- what is known of a kept table
 abbrev pub kept_of_good : TableFile → Good → Kept
@@ -380,7 +385,7 @@ salvaged files tables logs = record {
 abbrev pub refusal : List TableFile → List (ℕ × List Item) → Option SurveyErr
 refusal tables logs = elim (refused_file tables logs) [
   | Some why ↦ Some why
-  | None ↦ too_large (known_families tables) (in_order (taken_records tables logs)) (remainder_of tables logs)
+  | None ↦ too_large (known_families tables) (last_in_order (taken_records tables logs)) (remainder_of tables logs)
 ]
 
 -- what is made of the files, unless the greatest number is too great, or something else is refused
@@ -432,7 +437,7 @@ lost_names name (suc n) = lost_names name n ++ lost_name name (suc n) ∷ []
 
 -- the first name below `lost/` that isn't taken
 unfoldable pub free_lost_name : List ℕ → List (List ℕ) → List ℕ
-free_lost_name name taken = unwrap_or (find (λ lost. not (list_any (bytes_eq lost) taken)) (lost_names name (length taken))) (lost_name name 0)
+free_lost_name name taken = unwrap_or (first_that (λ lost. not (list_any (bytes_eq lost) taken)) (lost_names name (length taken))) (lost_name name 0)
 
 -- The files in the order in which they are moved, each with its name below `lost/`, which is free beside the
 -- names that are taken and those given before it.
@@ -449,7 +454,7 @@ report files tables logs = let found = salvaged files tables logs in record {
   logs = length found.logs;
   added = length (filter (λ family. list_any (λ r. r.family == family.id) found.remainder) found.families);
   archived = length found.archived;
-  records = length (in_order (taken_records tables logs));
+  records = length (last_in_order (taken_records tables logs));
 }
 
 -- The report of a repair of the directory, or the refusal.
@@ -507,15 +512,15 @@ of_contradictions : map (λ table. table.number) (agreeing first_families (of_fa
 unfolding agreeing of_family
 of_contradictions = refl
 
--- the older of two logs, and a record of a family that isn't known
-of_two_logs : in_order (log_records first_families ((5, rec (2 ∷ 0 ∷ 0 ∷ 0 ∷ 0 ∷ 0 ∷ 0 ∷ 0 ∷ 2 ∷ 0 ∷ 0 ∷ 0 ∷ 1 ∷ 1 ∷ codes "b" ++ 1 ∷ codes "5" ++ 5 ∷ 7 ∷ 1 ∷ codes "c" ++ 0 ∷ []) 0 ∷ end Clean 27 ∷ []) ∷ (7, rec (2 ∷ 0 ∷ 0 ∷ 0 ∷ 0 ∷ 0 ∷ 0 ∷ 0 ∷ 1 ∷ 0 ∷ 0 ∷ 0 ∷ 1 ∷ 1 ∷ codes "b" ++ 1 ∷ codes "7") 0 ∷ end Torn 24 ∷ []) ∷ []))
+-- Of two logs the later counts. A record of a family that isn't known is left out.
+of_two_logs : last_in_order (log_records first_families ((5, rec (2 ∷ 0 ∷ 0 ∷ 0 ∷ 0 ∷ 0 ∷ 0 ∷ 0 ∷ 2 ∷ 0 ∷ 0 ∷ 0 ∷ 1 ∷ 1 ∷ codes "b" ++ 1 ∷ codes "5" ++ 5 ∷ 7 ∷ 1 ∷ codes "c" ++ 0 ∷ []) 0 ∷ end Clean 27 ∷ []) ∷ (7, rec (2 ∷ 0 ∷ 0 ∷ 0 ∷ 0 ∷ 0 ∷ 0 ∷ 0 ∷ 1 ∷ 0 ∷ 0 ∷ 0 ∷ 1 ∷ 1 ∷ codes "b" ++ 1 ∷ codes "7") 0 ∷ end Torn 24 ∷ []) ∷ []))
     ≡ put_of (codes "b") 2 (codes "7") ∷ []
-unfolding in_order place_cmp batch_of in_turn put_of
+unfolding placed place_cmp batch_of in_turn put_of
 of_two_logs = refl
 
 -- Of what is admitted the kept tables hold `a`, and `b` with another value.
 of_another_value : not_held (put_of (codes "a") 1 (codes "x") ∷ put_of (codes "b") 2 (codes "5") ∷ []) (put_of (codes "a") 1 (codes "x") ∷ put_of (codes "b") 2 (codes "7") ∷ []) ≡ put_of (codes "b") 2 (codes "7") ∷ []
-unfolding place_cmp put_of
+unfolding placed place_cmp put_of
 of_another_value = refl
 
 -- the lowest table comes before the lowest log
@@ -538,5 +543,5 @@ unfolding free_lost_name digits
 of_a_taken_lost_name = refl
 
 of_no_file : of_files report [] ≡ Ok (record { moved = []; families = 1; tables = 0; logs = 0; added = 0; archived = 0; records = 0 })
-unfolding of_files numbered greatest_number agreeing in_order moves place_cmp
+unfolding of_files numbered greatest_number agreeing placed moves place_cmp
 of_no_file = refl
