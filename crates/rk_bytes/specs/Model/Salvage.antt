@@ -44,7 +44,7 @@ use Rattle.rk_bytes.specs.Model.VersionEdit.{Field, added_in, edit_fields}
 use Rattle.rk_bytes.specs.declared.model.view.Tomb.{Tomb}
 use Rattle.rk_bytes.specs.Model.KeyView.{State, tomb_of, is_covered}
 use Rattle.rk_bytes.specs.Model.Opening.{in_order, range_record}
-use Rattle.rk_bytes.specs.Model.Records.{Place, place_of, place_cmp, end_of, RecordMap, last_records}
+use Rattle.rk_bytes.specs.Model.Records.{Slot, slot_of, slot_cmp, end_of, RecordMap, last_records}
 
 -- the value of an answer, or an empty list
 abbrev pub list_or_none : {A F : Type 0} → Result (List A) F → List A
@@ -265,21 +265,21 @@ abbrev pub taken_records : List TableFile → List (ℕ × List Item) → List R
 taken_records tables logs = all_records (partly_read tables) ++ (kept_records tables ++ log_records (known_families tables) logs)
 
 -- Entries in the order of their places. Of two at one place the first counts.
-unfoldable pub placed : List (Place × Record) → List (Place × Record)
+unfoldable pub placed : List (Slot × Record) → List (Slot × Record)
 placed [] = []
-placed (entry ∷ entries) = put place_cmp entry.0 entry.1 (placed entries)
+placed (entry ∷ entries) = put slot_cmp entry.0 entry.1 (placed entries)
 
 -- The last record at each place in the list, in the order of the places: the entries of `last_records` (law
 -- `records_in_order`).
-abbrev pub last_placed : List Record → List (Place × Record)
-last_placed records = placed (map (λ r. (place_of r, r)) (reverse records))
+abbrev pub last_placed : List Record → List (Slot × Record)
+last_placed records = placed (map (λ r. (slot_of r, r)) (reverse records))
 
 abbrev pub last_in_order : List Record → List Record
 last_in_order records = map (λ entry. entry.1) (last_placed records)
 
 -- one of the entries stands at the record's place and has its value
-abbrev pub is_held : List (Place × Record) → Record → Bool
-is_held held r = option_map_or (λ other. bytes_eq other.value r.value) (find place_cmp (place_of r) held) false
+abbrev pub is_held : List (Slot × Record) → Record → Bool
+is_held held r = option_map_or (λ other. bytes_eq other.value r.value) (find slot_cmp (slot_of r) held) false
 
 -- the last records of a list that those of another don't hold with the same value
 abbrev pub not_held : List Record → List Record → List Record
@@ -515,12 +515,12 @@ of_contradictions = refl
 -- Of two logs the later counts. A record of a family that isn't known is left out.
 of_two_logs : last_in_order (log_records first_families ((5, rec (2 ∷ 0 ∷ 0 ∷ 0 ∷ 0 ∷ 0 ∷ 0 ∷ 0 ∷ 2 ∷ 0 ∷ 0 ∷ 0 ∷ 1 ∷ 1 ∷ codes "b" ++ 1 ∷ codes "5" ++ 5 ∷ 7 ∷ 1 ∷ codes "c" ++ 0 ∷ []) 0 ∷ end Clean 27 ∷ []) ∷ (7, rec (2 ∷ 0 ∷ 0 ∷ 0 ∷ 0 ∷ 0 ∷ 0 ∷ 0 ∷ 1 ∷ 0 ∷ 0 ∷ 0 ∷ 1 ∷ 1 ∷ codes "b" ++ 1 ∷ codes "7") 0 ∷ end Torn 24 ∷ []) ∷ []))
     ≡ put_of (codes "b") 2 (codes "7") ∷ []
-unfolding placed place_cmp batch_of in_turn put_of
+unfolding placed slot_cmp batch_of in_turn put_of
 of_two_logs = refl
 
 -- Of what is admitted the kept tables hold `a`, and `b` with another value.
 of_another_value : not_held (put_of (codes "a") 1 (codes "x") ∷ put_of (codes "b") 2 (codes "5") ∷ []) (put_of (codes "a") 1 (codes "x") ∷ put_of (codes "b") 2 (codes "7") ∷ []) ≡ put_of (codes "b") 2 (codes "7") ∷ []
-unfolding placed place_cmp put_of
+unfolding placed slot_cmp put_of
 of_another_value = refl
 
 -- the lowest table comes before the lowest log
@@ -543,5 +543,5 @@ unfolding free_lost_name digits
 of_a_taken_lost_name = refl
 
 of_no_file : of_files report [] ≡ Ok (record { moved = []; families = 1; tables = 0; logs = 0; added = 0; archived = 0; records = 0 })
-unfolding of_files numbered greatest_number agreeing placed moves place_cmp
+unfolding of_files numbered greatest_number agreeing placed moves slot_cmp
 of_no_file = refl

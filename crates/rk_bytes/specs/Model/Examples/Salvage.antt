@@ -20,7 +20,7 @@ use Rattle.rk_bytes.specs.Model.BlockEntries.{block_entries, entries_after, inde
 use Rattle.rk_bytes.specs.Model.TableFooter.{footer_of, checked_block}
 use Rattle.rk_bytes.specs.Model.TableStatus.{table_with, table_status}
 use Rattle.rk_bytes.specs.Model.WriteBatch.{batch_of}
-use Rattle.rk_bytes.specs.Model.Records.{place_cmp}
+use Rattle.rk_bytes.specs.Model.Records.{slot_cmp}
 use Rattle.rk_bytes.specs.Model.DiskImages.{Directory}
 use Rattle.rk_bytes.specs.Model.Salvage.{Files, readable_records, table_part, numbered, greatest_number, agreeing, placed, last_in_order, tables_in, logs_in, known_families, remainder_of, taken_records, of_files, free_lost_name, moves, report, repair_report}
 
@@ -50,16 +50,16 @@ directory_with table = (codes "000004.sst", good_table) ∷ (codes "000005.log",
 
 -- a report, computed
 computed : Files → Result Report SurveyErr
-unfolding of_files numbered greatest_number agreeing placed free_lost_name moves readable_records table_part table_status table_with footer_of checked_block internal_key block_entries entries_after index_entries place_cmp batch_of in_turn log_marks blocks_marks block_len block_marks found name_of digits crc32c crc_bytes crc_bits crc_bit
+unfolding of_files numbered greatest_number agreeing placed free_lost_name moves readable_records table_part table_status table_with footer_of checked_block internal_key block_entries entries_after index_entries slot_cmp batch_of in_turn log_marks blocks_marks block_len block_marks found name_of digits crc32c crc_bytes crc_bits crc_bit
 computed files = of_files report files
 
 -- what is admitted, in order, and what of it is added to the tables
 admitted : Files → List Record
-unfolding numbered agreeing placed readable_records table_part table_status table_with footer_of checked_block internal_key block_entries entries_after index_entries place_cmp batch_of in_turn log_marks blocks_marks block_len block_marks found name_of digits crc32c crc_bytes crc_bits crc_bit
+unfolding numbered agreeing placed readable_records table_part table_status table_with footer_of checked_block internal_key block_entries entries_after index_entries slot_cmp batch_of in_turn log_marks blocks_marks block_len block_marks found name_of digits crc32c crc_bytes crc_bits crc_bit
 admitted files = last_in_order (taken_records (tables_in files) (logs_in files))
 
 added : Files → List Record
-unfolding numbered agreeing placed readable_records table_part table_status table_with footer_of checked_block internal_key block_entries entries_after index_entries place_cmp batch_of in_turn log_marks blocks_marks block_len block_marks found name_of digits crc32c crc_bytes crc_bits crc_bit
+unfolding numbered agreeing placed readable_records table_part table_status table_with footer_of checked_block internal_key block_entries entries_after index_entries slot_cmp batch_of in_turn log_marks blocks_marks block_len block_marks found name_of digits crc32c crc_bytes crc_bits crc_bit
 added files = remainder_of (tables_in files) (logs_in files)
 
 put_of : List ℕ → ℕ → List ℕ → Record
@@ -109,5 +109,5 @@ unfolding repair_report
 report_of files sorted = λ i. of_files report (entries-from_sorted (slice_cmp nat_cmp) files sorted i)
 
 of_an_empty_directory : repair_report (from_sorted []) ≡ Ok (record { moved = []; families = 1; tables = 0; logs = 0; added = 0; archived = 0; records = 0 })
-unfolding of_files numbered greatest_number agreeing placed moves place_cmp
+unfolding of_files numbered greatest_number agreeing placed moves slot_cmp
 of_an_empty_directory = report_of [] tt
