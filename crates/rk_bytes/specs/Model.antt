@@ -13,3 +13,6 @@ pub mod Records
 pub mod WriteBatch
 pub mod VersionEdit
 pub mod Manifest
+pub mod KeyView
+pub mod Replay
+pub mod Opening
