@@ -1,13 +1,15 @@
 -- Which records of write-ahead logs are replayed (RocksDB's wiki, "WAL Recovery Modes"; the recovery of logs in
 -- db/db_impl/db_impl_open.cc). The exact cases of the four modes, the expected sequence number and when a
 -- family is ahead of the logs are this project's own rules.
-use Rattle.std.specs.Prelude.{ℕ, ◌+◌, ◌==◌, Bool, true, false, not, ◌&&◌, List, [], ◌∷◌, ◌++◌, length, map, flat_map, take, filter, filter_map, find, fold, take_while, slice_get, nat_lt, nat_le, if◌then◌else◌, Option, Some, None, is_some, option_map, unwrap_or, Result, Ok, Err}
+use Rattle.std.specs.Prelude.{◌≡◌, ℕ, ◌+◌, ◌==◌, Bool, true, false, not, ◌&&◌, List, [], ◌∷◌, ◌++◌, length, map, flat_map, take, filter, filter_map, find, fold, take_while, slice_get, nat_lt, nat_le, if◌then◌else◌, Option, Some, None, is_some, option_map, unwrap_or, Result, Ok, Err, replicate, codes, refl}
 use Rattle.std.specs.List.{list_any, last_or}
 use Rattle.rk_bytes.specs.declared.model.batch.BatchFault.{BatchFault}
-use Rattle.rk_bytes.specs.declared.model.batch.BatchFault.TheVariants.{UnsupportedTag}
+use Rattle.rk_bytes.specs.declared.model.batch.BatchFault.TheVariants.{UnsupportedTag, WrongCount}
 use Rattle.rk_bytes.specs.declared.model.key.Record.{Record}
+use Rattle.rk_bytes.specs.declared.model.log.GapWhy.TheVariants.{Checksum}
 use Rattle.rk_bytes.specs.declared.model.log.EndKind.TheVariants.{Clean, Torn as torn_end, Stale, Unsupported}
 use Rattle.rk_bytes.specs.declared.model.manifest.FamilyState.{FamilyState}
+use Rattle.rk_bytes.specs.declared.model.manifest.FileMeta.{FileMeta}
 use Rattle.rk_bytes.specs.declared.model.manifest.Version.{Version}
 use Rattle.rk_bytes.specs.declared.model.wal.Mode.{Mode}
 use Rattle.rk_bytes.specs.declared.model.wal.Mode.TheVariants.{TolerateTail, Absolute, PointInTime, SkipAny}
@@ -17,6 +19,10 @@ use Rattle.rk_bytes.specs.declared.model.wal.WalWhy.{WalWhy}
 use Rattle.rk_bytes.specs.declared.model.wal.WalWhy.TheVariants.{Gap, Torn, Batch as bad_batch}
 use Rattle.rk_bytes.specs.declared.model.wal.WalErr.{WalErr}
 use Rattle.rk_bytes.specs.declared.model.wal.WalErr.TheVariants.{Corrupt, FamilyAhead, UnsupportedLog}
+use Rattle.rk_bytes.specs.declared.model.key.Kind.TheVariants.{Value}
+use Rattle.rk_bytes.specs.Model.Numbers.{fixed_of, prefixed_of, in_turn}
+use Rattle.rk_bytes.specs.Model.Checksums.{crc_bit, crc_bits, crc_bytes, crc32c}
+use Rattle.rk_bytes.specs.Model.LogMarks.{found, block_len, block_marks, blocks_marks, log_marks}
 use Rattle.rk_bytes.specs.Model.LogItems.{Item, rec, gap, end, log_items}
 use Rattle.rk_bytes.specs.Model.WriteBatch.{Batch, changes, change_count, batch_of}
 use Rattle.rk_bytes.specs.Model.Manifest.{has_id}
@@ -164,3 +170,113 @@ replay_counted mode version logs = elim (slice_get (flat_map (refusals mode) log
 -- What is replayed of logs in rising number, over the version, or the first refusal.
 unfoldable pub replay : Mode → Version → List Log → Result Replayed WalErr
 replay mode version logs = replay_counted mode version (counted mode version (map findings logs))
+
+-- a batch of one put, and a log's record with this stored sum
+put_batch : ℕ → List ℕ → List ℕ → List ℕ
+put_batch sequence key value = fixed_of 8 sequence ++ fixed_of 4 1 ++ 1 ∷ prefixed_of key ++ prefixed_of value
+
+log_record : ℕ → List ℕ → List ℕ
+log_record sum payload = fixed_of 4 sum ++ fixed_of 2 (length payload) ++ 1 ∷ payload
+
+put_of : ℕ → List ℕ → List ℕ → Record
+put_of sequence key value = record { family = 0; key = key; sequence = sequence; kind = Value; value = value }
+
+-- the log 3 of a put of `a` at 1 and of one of `b` at 2, 48 bytes
+two_puts : List ℕ
+unfolding put_batch log_record
+two_puts = log_record 0x19789fe9 (put_batch 1 (codes "a") (codes "1")) ++ log_record 0x7abc728f (put_batch 2 (codes "b") (codes "2"))
+
+-- a version whose last sequence number is 0: the default family, and one that has a table and this log number
+table_4 : FileMeta
+table_4 = record { number = 4; level = 0; size = 9; smallest = []; largest = []; seqs = None }
+
+two_families : ℕ → Version
+unfolding table_4
+two_families log = record {
+  families = record { id = 0; name = codes "default"; log = 3; files = [] } ∷ record { id = 1; name = codes "one"; log = log; files = table_4 ∷ [] } ∷ [];
+  log_seen = true;
+  next_file = Some 9;
+  last_sequence = Some 0;
+  least_log = 0;
+  greatest_family = 1;
+  wals = [];
+}
+
+-- what is replayed, computed, and the same in the four modes
+replay_in : Mode → Version → List Log → Result Replayed WalErr
+unfolding replay log_marks blocks_marks block_marks found block_len crc32c crc_bytes crc_bits crc_bit batch_of in_turn
+replay_in mode version logs = replay mode version logs
+
+replays : Version → List Log → List (Result Replayed WalErr)
+unfolding replay_in
+replays version logs = map (λ mode. replay_in mode version logs) (TolerateTail ∷ Absolute ∷ PointInTime ∷ SkipAny ∷ [])
+
+of_two_puts : replays (two_families 0) (record { number = 3; bytes = two_puts } ∷ [])
+    ≡ replicate 4 (Ok (record { records = put_of 1 (codes "a") (codes "1") ∷ put_of 2 (codes "b") (codes "2") ∷ []; expected = 3; stopped = None }))
+unfolding replays two_families table_4 two_puts put_batch log_record put_of
+of_two_puts = refl
+
+-- without the last byte
+of_a_torn_end : replays (two_families 0) (record { number = 3; bytes = take 47 two_puts } ∷ [])
+    ≡ Ok (record { records = put_of 1 (codes "a") (codes "1") ∷ []; expected = 2; stopped = None })
+    ∷ Err (Corrupt 3 24 Torn)
+    ∷ Ok (record { records = put_of 1 (codes "a") (codes "1") ∷ []; expected = 2; stopped = Some 3 })
+    ∷ Ok (record { records = put_of 1 (codes "a") (codes "1") ∷ []; expected = 2; stopped = None }) ∷ []
+unfolding replays two_families table_4 two_puts put_batch log_record put_of
+of_a_torn_end = refl
+
+-- what stands in log 5 and in log 7 below: a put of `a` at 1 and then a record with a wrong sum; a put of `b`
+damaged_after_a : List ℕ
+unfolding put_batch log_record
+damaged_after_a = log_record 0x19789fe9 (put_batch 1 (codes "a") (codes "1")) ++ log_record 0 (put_batch 2 (codes "b") (codes "2"))
+
+logs_5_and_7 : List ℕ → List Log
+unfolding damaged_after_a
+logs_5_and_7 later = record { number = 5; bytes = damaged_after_a } ∷ record { number = 7; bytes = later } ∷ []
+
+-- Replay goes on in log 7 at the expected sequence number.
+of_a_log_that_goes_on : replays (two_families 8) (logs_5_and_7 (log_record 0x7abc728f (put_batch 2 (codes "b") (codes "2"))))
+    ≡ Err (Corrupt 5 24 (Gap Checksum)) ∷ Err (Corrupt 5 24 (Gap Checksum))
+    ∷ replicate 2 (Ok (record { records = put_of 1 (codes "a") (codes "1") ∷ put_of 2 (codes "b") (codes "2") ∷ []; expected = 3; stopped = None }))
+unfolding replays two_families table_4 logs_5_and_7 damaged_after_a put_batch log_record put_of
+of_a_log_that_goes_on = refl
+
+-- It doesn't at another one. Then the family with log number 8 is ahead of log 5, and one with log number 5 isn't.
+of_a_log_that_waits : map (λ log. replay_in PointInTime (two_families log) (logs_5_and_7 (log_record 0x30a2356 (put_batch 3 (codes "b") (codes "2"))))) (8 ∷ 5 ∷ [])
+    ≡ Err (FamilyAhead 1 5) ∷ Ok (record { records = put_of 1 (codes "a") (codes "1") ∷ []; expected = 2; stopped = Some 5 }) ∷ []
+unfolding replay_in two_families table_4 logs_5_and_7 damaged_after_a put_batch log_record put_of
+of_a_log_that_waits = refl
+
+-- A batch that isn't reached may have a tag that isn't supported.
+of_an_unsupported_tag : replays (two_families 5) (logs_5_and_7 (log_record 0x35e561cd (fixed_of 8 2 ++ fixed_of 4 0 ++ 9 ∷ [])))
+    ≡ Err (Corrupt 5 24 (Gap Checksum)) ∷ Err (Corrupt 5 24 (Gap Checksum))
+    ∷ Ok (record { records = put_of 1 (codes "a") (codes "1") ∷ []; expected = 2; stopped = Some 5 })
+    ∷ Err (UnsupportedLog 7 (Tag 9)) ∷ []
+unfolding replays two_families table_4 logs_5_and_7 damaged_after_a put_batch log_record put_of
+of_an_unsupported_tag = refl
+
+-- A batch without a change goes on as well.
+of_a_batch_without_a_change : replay_in PointInTime (two_families 5) (logs_5_and_7 (log_record 0xe46c7ac (fixed_of 8 2 ++ fixed_of 4 0)))
+    ≡ Ok (record { records = put_of 1 (codes "a") (codes "1") ∷ []; expected = 2; stopped = None })
+unfolding replay_in two_families table_4 logs_5_and_7 damaged_after_a put_batch log_record put_of
+of_a_batch_without_a_change = refl
+
+-- a batch of three puts that states two
+three_puts_stated_as_two : List ℕ
+three_puts_stated_as_two = fixed_of 8 5 ++ fixed_of 4 2 ++ (1 ∷ 1 ∷ codes "a") ++ (1 ∷ codes "1") ++ (1 ∷ 1 ∷ codes "b") ++ (1 ∷ codes "2") ++ (1 ∷ 1 ∷ codes "c") ++ (1 ∷ codes "3")
+
+of_a_wrong_count : replays (two_families 0) (record { number = 3; bytes = log_record 0x1575268e three_puts_stated_as_two } ∷ [])
+    ≡ Err (Corrupt 3 0 (bad_batch (WrongCount 2 3))) ∷ Err (Corrupt 3 0 (bad_batch (WrongCount 2 3)))
+    ∷ Ok (record { records = []; expected = 1; stopped = Some 3 }) ∷ Ok (record { records = []; expected = 1; stopped = None }) ∷ []
+unfolding replays two_families table_4 three_puts_stated_as_two log_record
+of_a_wrong_count = refl
+
+-- A log below its family's number adds no record, and is replayed all the same.
+of_a_log_of_older_records : replay_in Absolute (two_families 0) (record { number = 2; bytes = two_puts } ∷ []) ≡ Ok (record { records = []; expected = 3; stopped = None })
+unfolding replay_in two_families table_4 two_puts put_batch log_record
+of_a_log_of_older_records = refl
+
+-- an earlier life of log 5 stops replay, and no family is ahead of it
+of_a_stale_end : replay_counted PointInTime (two_families 8) (record { log = 5; found = stale_end ∷ [] } ∷ []) ≡ Ok (record { records = []; expected = 1; stopped = Some 5 })
+unfolding two_families table_4
+of_a_stale_end = refl
