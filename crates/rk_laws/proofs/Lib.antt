@@ -5,6 +5,7 @@ mod BlockLemmas
 mod DeltaLemmas
 mod EditLemmas
 mod EntryLemmas
+mod FixedNumbers
 mod InTurn
 mod Orders
 mod PartingLemmas
