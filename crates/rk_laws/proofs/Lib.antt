@@ -6,7 +6,9 @@ mod DeltaLemmas
 mod EditLemmas
 mod EntryLemmas
 mod FixedNumbers
+mod IndexLaw
 mod InTurn
+mod NameLemmas
 mod Orders
 mod PartingLemmas
 mod Readers

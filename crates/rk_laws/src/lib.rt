@@ -9,15 +9,17 @@ mod commands;
 mod edit;
 mod internal_key;
 mod log_items;
+mod names;
 mod numbers;
 mod records;
 
 pub use batch::one_batch;
-pub use blocks::{one_block, one_delta_index};
+pub use blocks::{one_block, one_delta_index, one_index};
 pub use checksums::{crc32c_of_appended, mask_round_trip};
 pub use commands::one_command;
 pub use edit::one_edit;
 pub use internal_key::{key_order, key_round_trip};
 pub use log_items::one_parting;
+pub use names::one_name;
 pub use numbers::{one_varint, shortest_varint, varint_round_trip, zigzag_round_trip};
 pub use records::{last_of_appended, slot_order};
