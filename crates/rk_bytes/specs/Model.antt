@@ -23,3 +23,8 @@ pub mod VersionEdit
 pub mod WriteBatch
 pub mod Writers
 pub mod WrittenLogs
+pub mod Manifest
+pub mod KeyView
+pub mod Replay
+pub mod Opening
+pub mod BestEfforts
