@@ -16,3 +16,4 @@ pub mod Manifest
 pub mod KeyView
 pub mod Replay
 pub mod Opening
+pub mod Examples
