@@ -7,7 +7,7 @@ use Rattle.std.proofs.Math.Seq.{take-append_seam, drop-append_seam, drop-drop}
 use Rattle.rk_bytes.specs.declared.model.batch.BatchFault.{BatchFault}
 use Rattle.rk_bytes.specs.Model.Numbers.{AreBytes, little_endian, in_turn}
 use Rattle.rk_bytes.specs.Model.InternalKey.{top_sequence}
-use Rattle.rk_bytes.specs.Model.WriteBatch.{Part, change, log_bytes, noop, change_count, part_of_tag, part_at, batch_sequence, stated_count, parts_after_header, Batch, batch_of, SpellsPart, SpellsParts, IsBatch}
+use Rattle.rk_bytes.specs.Model.WriteBatch.{Part, change, log_bytes, noop, change_count, part_of_tag, batch_part_at, batch_sequence, stated_count, parts_after_header, Batch, batch_of, SpellsPart, SpellsParts, IsBatch}
 use Rattle.rk_laws.proofs.ReadingLemmas.{both_steps, first_step, passed, bytes_after}
 use Rattle.rk_laws.proofs.BatchLemmas.{part_ok, part-spelled}
 
@@ -17,14 +17,14 @@ change_count-more (log_bytes at slice) parts = omega arith
 change_count-more (noop at) parts = omega arith
 
 -- the parts that are read are spelled
-parts_ok : (n len sequence place next : ℕ) (before : List Part) (bytes : List ℕ) (parts : List Part) → AreBytes bytes → length bytes ≤ n → len ≡ place + length bytes → next ≡ sequence + change_count before → in_turn (part_at len sequence) n before bytes ≡ Ok parts → SpellsParts place next bytes parts
+parts_ok : (n len sequence place next : ℕ) (before : List Part) (bytes : List ℕ) (parts : List Part) → AreBytes bytes → length bytes ≤ n → len ≡ place + length bytes → next ≡ sequence + change_count before → in_turn (batch_part_at len sequence) n before bytes ≡ Ok parts → SpellsParts place next bytes parts
 unfolding in_turn
 parts_ok zero len sequence place next before [] parts are few is counted e = let none : [] ≡ parts = cc in subst (λ parts. SpellsParts place next [] parts) none refl
 parts_ok zero len sequence place next before (tag ∷ bytes) parts are few is counted e = absurd (omega arith)
 parts_ok (suc n) len sequence place next before [] parts are few is counted e = let none : [] ≡ parts = cc in subst (λ parts. SpellsParts place next [] parts) none refl
 parts_ok (suc n) len sequence place next before (tag ∷ bytes) parts are few is counted e =
-    both_steps (part_at len sequence before (tag ∷ bytes)) _ parts e λ r read e1.
-    both_steps (in_turn (part_at len sequence) n (r.0 ∷ before) r.1) _ parts e1 λ more more_read e2.
+    both_steps (batch_part_at len sequence before (tag ∷ bytes)) _ parts e λ r read e1.
+    both_steps (in_turn (batch_part_at len sequence) n (r.0 ∷ before) r.1) _ parts e1 λ more more_read e2.
     let p = part_ok (len - length (tag ∷ bytes)) (sequence + change_count before) tag bytes r are.1 read in
     let lens : length bytes ≡ length p.more + length r.1 = ap length p.whole ∙ length-append p.more r.1 in
     let place_is : len - length (tag ∷ bytes) ≡ place = omega arith in
@@ -40,11 +40,11 @@ parts_ok (suc n) len sequence place next before (tag ∷ bytes) parts are few is
     )
 
 -- the parts that are spelled are read
-parts-spelled : (n len sequence place next : ℕ) (before : List Part) (bytes : List ℕ) (parts : List Part) → length bytes ≤ n → len ≡ place + length bytes → next ≡ sequence + change_count before → SpellsParts place next bytes parts → in_turn (part_at len sequence) n before bytes ≡ Ok parts
+parts-spelled : (n len sequence place next : ℕ) (before : List Part) (bytes : List ℕ) (parts : List Part) → length bytes ≤ n → len ≡ place + length bytes → next ≡ sequence + change_count before → SpellsParts place next bytes parts → in_turn (batch_part_at len sequence) n before bytes ≡ Ok parts
 unfolding in_turn
 parts-spelled n len sequence place next before bytes [] few is counted none = rw none (nothing n)
   where
-    nothing : (n : ℕ) → in_turn (part_at len sequence) n before [] ≡ Ok []
+    nothing : (n : ℕ) → in_turn (batch_part_at len sequence) n before [] ≡ Ok []
     nothing zero = refl
     nothing (suc n) = refl
 parts-spelled zero len sequence place next before bytes (part ∷ parts) few is counted (spelled, rest, whole, s, more) =
@@ -56,12 +56,12 @@ parts-spelled (suc n) len sequence place next before bytes (part ∷ parts) few 
     let lens : length bytes ≡ length spelled + length rest = ap length whole ∙ length-append spelled rest in
     let some : length spelled ≡ suc (length p.more) = ap length p.whole in
     let place_is : len - length (p.tag ∷ (p.more ++ rest)) ≡ place = omega (arith, ap length split) in
-    let read : part_at len sequence before (p.tag ∷ (p.more ++ rest)) ≡ Ok (part, rest) =
+    let read : batch_part_at len sequence before (p.tag ∷ (p.more ++ rest)) ≡ Ok (part, rest) =
     ap (λ place. part_of_tag place (sequence + change_count before) p.tag (p.more ++ rest)) place_is
     ∙ ap (λ next. part_of_tag place next p.tag (p.more ++ rest)) (sym counted)
     ∙ p.read in
-    ap (in_turn (part_at len sequence) (suc n) before) split
-    ∙ first_step (part_at len sequence before (p.tag ∷ (p.more ++ rest))) _ _ read
+    ap (in_turn (batch_part_at len sequence) (suc n) before) split
+    ∙ first_step (batch_part_at len sequence before (p.tag ∷ (p.more ++ rest))) _ _ read
     ∙ first_step _ _ parts (parts-spelled n len sequence (place + length spelled) (next + change_count (part ∷ [])) (part ∷ before) rest parts (omega arith) (omega arith) (omega (arith, change_count-more part before)) more)
 
 -- a header's two parts, and what follows them
@@ -136,8 +136,8 @@ batch_of-batch bytes batch b =
     let sequence_is : batch_sequence bytes ≡ batch.sequence = ap little_endian h.sequence_is ∙ sym b.sequence.value in
     let counted : stated_count bytes ≡ change_count batch.parts = ap little_endian h.count_is ∙ sym b.count.value in
     let read : parts_after_header bytes ≡ Ok batch.parts =
-    ap (λ sequence. in_turn (part_at (length bytes) sequence) (length bytes) [] (drop 12 bytes)) sequence_is
-    ∙ ap (in_turn (part_at (length bytes) batch.sequence) (length bytes) []) h.parts_are
+    ap (λ sequence. in_turn (batch_part_at (length bytes) sequence) (length bytes) [] (drop 12 bytes)) sequence_is
+    ∙ ap (in_turn (batch_part_at (length bytes) batch.sequence) (length bytes) []) h.parts_are
     ∙ parts-spelled (length bytes) (length bytes) batch.sequence 12 batch.sequence [] b.part_bytes batch.parts (omega (arith, h.long)) h.long (omega arith) b.parts in
     let top : batch_sequence bytes ≤ top_sequence = omega (arith, b.below_top) in
     let last_top : batch_sequence bytes + change_count batch.parts ≤ top_sequence + 1 = omega (arith, b.last_below_top) in

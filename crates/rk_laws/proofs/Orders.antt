@@ -1,4 +1,4 @@
--- Internal keys and places are in a total order.
+-- Internal keys and slots are in a total order.
 use Rattle.std.proofs.Common.{◌≡◌, ℕ, suc, ◌+◌, ◌-◌, ◌<◌, ◌≤◌, List, [], ◌∷◌, ◌++◌, length, drop, All, refl, sym, ◌∙◌, arith, length-drop, take-append-drop, get_or-drop}
 use Rattle.std.specs.declared.cmp.Ordering.{Ordering}
 use Rattle.std.specs.declared.cmp.Ordering.TheVariants.{Less, Equal, Greater}
@@ -8,16 +8,16 @@ use Rattle.std.specs.Cmp.Lexicographic.{slice_cmp, nat_list_cmp_total}
 use Rattle.std.specs.FinMap.{IsAntisymmetric, nat_cmp-IsAntisymmetric, slice_cmp-IsAntisymmetric}
 use Rattle.rk_bytes.specs.Model.Numbers.{little_endian}
 use Rattle.rk_bytes.specs.Model.InternalKey.{user_key, packed, key_cmp}
-use Rattle.rk_bytes.specs.Model.Records.{Place, place_cmp}
+use Rattle.rk_bytes.specs.Model.Records.{Slot, slot_cmp}
 
 pub key_cmp-total : IsTotalOrder key_cmp
 key_cmp-total = then_total (on_total user_key nat_list_cmp_total) (back_total (on_total packed nat_cmp_total))
 
-pub place_cmp-total : IsTotalOrder place_cmp
-unfolding place_cmp
-place_cmp-total =
-    then_total (on_total (λ (p : Place). p.family) nat_cmp_total) (then_total (on_total (λ (p : Place). p.user) nat_list_cmp_total)
-    (then_total (on_total (λ (p : Place). p.packed) (back_total nat_cmp_total)) (on_total (λ (p : Place). p.end) nat_list_cmp_total)))
+pub slot_cmp-total : IsTotalOrder slot_cmp
+unfolding slot_cmp
+slot_cmp-total =
+    then_total (on_total (λ (p : Slot). p.family) nat_cmp_total) (then_total (on_total (λ (p : Slot). p.user) nat_list_cmp_total)
+    (then_total (on_total (λ (p : Slot). p.packed) (back_total nat_cmp_total)) (on_total (λ (p : Slot). p.end) nat_list_cmp_total)))
 
 both_equal : (r s : Ordering) → ordering_then r s ≡ Equal → (r ≡ Equal) × (s ≡ Equal)
 both_equal Less s e = cc
@@ -27,9 +27,9 @@ both_equal Greater s e = cc
 same_text : IsAntisymmetric (slice_cmp nat_cmp)
 same_text = slice_cmp-IsAntisymmetric nat_cmp-IsAntisymmetric
 
-pub place_cmp-only_equal : IsAntisymmetric place_cmp
-unfolding place_cmp
-place_cmp-only_equal p q e =
+pub slot_cmp-only_equal : IsAntisymmetric slot_cmp
+unfolding slot_cmp
+slot_cmp-only_equal p q e =
     let a = both_equal (nat_cmp p.family q.family) _ e in
     let b = both_equal (slice_cmp nat_cmp p.user q.user) _ a.1 in
     let c = both_equal (nat_cmp q.packed p.packed) _ b.1 in

@@ -68,7 +68,8 @@ high_more b bytes h = rw (take_while-cons (λ b. nat_le 128 b) b bytes, le-leb 1
 high_none : (b : ℕ) (bytes : List ℕ) → b < 128 → high_count (b ∷ bytes) ≡ 0
 high_none b bytes h = rw (take_while-cons (λ b. nat_le 128 b) b bytes, lt-leb 128 b h)
 
-one_more_group : (b : ℕ) (bytes : List ℕ) → 128 ≤ b → b < 256 → IsVarint bytes → IsVarint (b ∷ bytes)
+-- a group before a varint
+pub one_more_group : (b : ℕ) (bytes : List ℕ) → 128 ≤ b → b < 256 → IsVarint bytes → IsVarint (b ∷ bytes)
 one_more_group b [] high fits groups = absurd groups
 one_more_group b (next ∷ bytes) high fits groups = (high, fits, groups)
 

@@ -22,7 +22,7 @@ use Rattle.rk_bytes.specs.declared.model.open.OpenErr.TheVariants.{NoCurrent, Ba
 use Rattle.rk_bytes.specs.Model.Numbers.{◌>>=◌}
 use Rattle.rk_bytes.specs.Model.DiskImages.{Directory}
 use Rattle.rk_bytes.specs.Model.FileNames.{current_name, manifest_name, log_name, table_name, name_of, current_manifest}
-use Rattle.rk_bytes.specs.Model.BlockEntries.{with_fault, each}
+use Rattle.rk_bytes.specs.Model.BlockEntries.{with_fault, collected}
 use Rattle.rk_bytes.specs.Model.TableStatus.{TableFault, damaged, unsupported, Good, is_range_deletion, table_status}
 use Rattle.rk_bytes.specs.Model.Records.{last_records}
 use Rattle.rk_bytes.specs.Model.Manifest.{manifest_units, last_version, first_log}
@@ -173,8 +173,8 @@ unfoldable pub open_files : Mode → Files → List Log → Result Opened OpenEr
 open_files mode files logs = do
   number ← named_manifest files
   version ← version_in files number
-  tables ← each (table_file files) (listed_tables version.families)
-  synced ← each (tracked_log files (first_log version)) version.wals
+  tables ← collected (table_file files) (listed_tables version.families)
+  synced ← collected (tracked_log files (first_log version)) version.wals
   replayed ← with_fault Wal (replay mode version (filter (λ log. nat_le (first_log version) log.number) logs))
   Ok (opened number version tables replayed)
 
