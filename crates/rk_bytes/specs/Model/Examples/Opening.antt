@@ -20,12 +20,12 @@ use Rattle.rk_bytes.specs.declared.model.table.TableWhat.TheVariants.{Compressed
 use Rattle.rk_bytes.specs.declared.model.open.OpenErr.{OpenErr}
 use Rattle.rk_bytes.specs.declared.model.open.OpenErr.TheVariants.{NoCurrent, BadCurrent, NoManifest, Manifest, MissingTable, SizeMismatch, DamagedTable, UnsupportedTable, OutOfBounds, Wal}
 use Rattle.rk_bytes.specs.Model.Numbers.{fixed_of, prefixed_of, in_turn}
-use Rattle.rk_bytes.specs.Model.Checksums.{crc_bit, crc_bits, crc_bytes, crc32c}
-use Rattle.rk_bytes.specs.Model.LogMarks.{found, block_len, block_marks, blocks_marks, log_marks}
+use Rattle.rk_bytes.specs.Model.Checksums.{crc_bit, crc_bits, crc_bytes, crc32c, pieces}
+use Rattle.rk_bytes.specs.Model.LogMarks.{fragment_found, found, marks_from, block_len, blocks_marks, log_marks}
 use Rattle.rk_bytes.specs.Model.FileNames.{name_of, current_manifest}
 use Rattle.rk_bytes.specs.Model.WriteBatch.{batch_of}
-use Rattle.rk_bytes.specs.Model.VersionEdit.{edit_fields}
-use Rattle.rk_bytes.specs.Model.Manifest.{edits_of, fault_after, units_from, each, edit_step, overlap, unit_step, version_after}
+use Rattle.rk_bytes.specs.Model.VersionEdit.{after_customs, synced_sizes_at, edit_fields}
+use Rattle.rk_bytes.specs.Model.Manifest.{edits_of, parted_units, steps_in_order, edit_step, overlap, unit_step, version_after}
 use Rattle.rk_bytes.specs.Model.BlockEntries.{block_entries, entries_after, index_entries}
 use Rattle.rk_bytes.specs.Model.TableFooter.{footer_of, checked_block}
 use Rattle.rk_bytes.specs.Model.TableStatus.{property_list, range_list, table_with, table_status}
@@ -42,7 +42,7 @@ abbrev pub in_name_order : FileList → Type 0
 in_name_order files = T (is_sorted (slice_cmp nat_cmp) files)
 
 pub opened : Mode → FileList → Result Opened OpenErr
-unfolding open_files table_file replay log_marks blocks_marks block_marks found block_len crc32c crc_bytes crc_bits crc_bit batch_of in_turn name_of digits current_manifest edits_of fault_after edit_fields units_from each edit_step overlap unit_step version_after table_status table_with footer_of checked_block internal_key block_entries entries_after property_list range_list index_entries
+unfolding open_files table_file replay log_marks blocks_marks marks_from found fragment_found block_len pieces crc32c crc_bytes crc_bits crc_bit batch_of in_turn name_of digits current_manifest edits_of edit_fields after_customs synced_sizes_at parted_units steps_in_order edit_step overlap unit_step version_after table_status table_with footer_of checked_block internal_key block_entries entries_after property_list range_list index_entries
 opened mode files = open_files mode (λ name. find (slice_cmp nat_cmp) name files) (logs_of files)
 
 pub opens : (mode : Mode) (files : FileList) → in_name_order files → open_directory mode (from_sorted files) ≡ opened mode files
