@@ -1,3 +1,4 @@
 pub mod Drill
+pub mod Opening
 pub mod Salvage
 pub mod Writers
