@@ -1,3 +1,4 @@
+pub mod Output
 pub mod Drill
 pub mod Salvage
 pub mod Writers
