@@ -1,3 +1,4 @@
+pub mod Output
 pub mod Drill
 pub mod Opening
 pub mod Salvage
