@@ -1,2 +1,3 @@
 pub mod Drill
+pub mod Repair
 pub mod Writers
