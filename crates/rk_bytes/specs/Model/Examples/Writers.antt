@@ -1,5 +1,4 @@
--- Worked examples of tables and version edits as they are written. The bytes were
--- computed outside.
+-- Worked examples of tables and version edits as they are written. The bytes were computed outside.
 use Rattle.std.specs.Prelude.{◌≡◌, ℕ, ◌-◌, ◌^◌, true, false, List, [], ◌∷◌, ◌++◌, length, map, replicate, Option, Some, None, codes, refl}
 use Rattle.rk_bytes.specs.declared.model.block.RangeDel.{RangeDel}
 use Rattle.rk_bytes.specs.declared.model.edit.Seqs.{Seqs}
