@@ -1,3 +1,4 @@
+pub mod BestEfforts
 pub mod BlockEntries
 pub mod Checksums
 pub mod DiskImages
@@ -23,8 +24,3 @@ pub mod VersionEdit
 pub mod WriteBatch
 pub mod Writers
 pub mod WrittenLogs
-pub mod Manifest
-pub mod KeyView
-pub mod Replay
-pub mod Opening
-pub mod BestEfforts

@@ -9,8 +9,8 @@ mod EditFiles
 mod EditTracked
 mod EntryLemmas
 mod FixedNumbers
-mod IndexLaw
 mod InTurn
+mod IndexLaw
 mod ManifestUnits
 mod NameLemmas
 mod Orders
