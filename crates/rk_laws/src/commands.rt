@@ -4,5 +4,6 @@ ghost use Rattle.rk_bytes.specs.Model.Grammar.{Command, SpellsCommand, command_o
 
 /// Law: the command of a list of words is the one that they spell, and there is at most one.
 pub fn one_command()
-    ensures { (words : List (List ℕ)) (command : Command) → (command_of words ≡ Some command) ↔ SpellsCommand words command }
+    ensures read { (words : List (List ℕ)) (command : Command) → (command_of words ≡ Some command) ↔ SpellsCommand words command }
+    ensures unique { (words : List (List ℕ)) (command other : Command) → SpellsCommand words command → SpellsCommand words other → other ≡ command }
 {}

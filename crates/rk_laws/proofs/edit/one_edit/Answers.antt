@@ -1,4 +1,4 @@
-use Rattle.rk_laws.proofs.EditLemmas.{edit_fields_ok, edit_fields-edit}
+use Rattle.rk_laws.proofs.EditFields.{edit_fields_ok, edit_fields-edit}
 use Rattle.rk_laws.proofs.edit.one_edit.Goals as goal
 
 pub returns-clause-read : goal.returns-clause-read
