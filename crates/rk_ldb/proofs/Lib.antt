@@ -1,3 +1,4 @@
+mod CommandWords
 pub mod NumberWords
 pub mod Taken
 pub mod Names

@@ -4,4 +4,4 @@ use Rattle.rk_ldb.specs.declared.command.Command.{Command}
 use Rattle.rk_ldb.specs.declared.command.Command.TheVariants.{DumpWal}
 
 abbrev pub told : Command → grammar.Command
-told (DumpWal number) = grammar.dump_wal number
+told (DumpWal number hex) = grammar.dump_wal number hex

@@ -1,6 +1,7 @@
-ghost use Rattle.std.specs.Prelude.{◌≡◌, ◌⊎◌, ◌↔◌, ℕ, ◌<◌, ◌^◌, IsTrue, MatchOption, length, slice_index, decimal};
+ghost use Rattle.std.specs.Prelude.{◌≡◌, ◌⊎◌, ◌↔◌, ◌<◌, IsTrue, length, slice_index};
 ghost use Rattle.std.specs.Option.{option_map};
-ghost use Rattle.rk_bytes.specs.Model.Grammar.{command_of};
+ghost use Rattle.rk_bytes.specs.Model.Grammar.{hex_of, number_of};
+ghost use Rattle.rk_ldb.specs.Built.{built_command};
 ghost use Rattle.rk_ldb.specs.Commands.{told};
 
 use rk_bytes::Text;
@@ -8,27 +9,41 @@ use rk_bytes::Text;
 /// What the words of one call ask for.
 #[derive(Clone, Copy, Debug, PartialEq, Eq)]
 pub(crate) enum Command {
-    /// The records of the log with this number.
-    DumpWal { number: u64 },
+    /// The records of the log with this number, and what stands in them. Bytes are shown in
+    /// hexadecimal, or between quotation marks.
+    DumpWal { number: u64, hex: bool },
 }
 
-/// The command that the words spell, or `None` where they are in no command's grammar.
+/// The command that the words spell, or `None` where they are in the grammar of no command that the
+/// program has.
 pub(crate) fn read_command(words: &[Text]) -> Option<Command>
-    ensures { option_map told result ≡ command_of words.now }
+    ensures { option_map told result ≡ built_command words.now }
 {
-    let [verb, number] = words else {
+    let [verb, number, options @ ..] = words else {
         return None;
     };
     if verb.as_str() != "dump_wal" {
         return None;
     }
     let number = read_number(number.as_str())?;
-    Some(Command::DumpWal { number })
+    let hex = read_hex(options)?;
+    Some(Command::DumpWal { number, hex })
+}
+
+/// Whether the last words, which may be none, ask for hexadecimal.
+fn read_hex(words: &[Text]) -> Option<bool>
+    ensures { result ≡ hex_of words.now }
+{
+    match words {
+        [] => Some(false),
+        [word] if word.as_str() == "--hex" => Some(true),
+        _ => None,
+    }
 }
 
 /// The number that the word spells in decimal, with no sign and no leading zero.
 fn read_number(word: &str) -> Option<u64>
-    ensures { MatchOption result ((n : ℕ) → n < 2 ^ 64 → word.now ≡ decimal n → ⊥) (λ n. (n < 2 ^ 64) × (word.now ≡ decimal n)) }
+    ensures { result ≡ number_of word.now }
 {
     if begins_otherwise(word.as_bytes()) {
         return None;

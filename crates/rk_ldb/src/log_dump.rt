@@ -1,101 +1,187 @@
-ghost use Rattle.std.specs.Prelude.{◌≡◌, ◌∷◌, [], map, IfOk, IfSome};
+ghost use Rattle.std.specs.Prelude.{◌≡◌, ◌+◌, ◌<◌, ◌≤◌, ◌∷◌, ◌++◌, ◌^◌, [], ℕ, List, Some, IfOk, IfSome, false, true, codes, length, drop, map, unwrap_or};
 ghost use Rattle.std.specs.FinMap.{get};
 ghost use Rattle.rk_bytes.specs.Model.DiskImages.{contents_told};
 ghost use Rattle.rk_bytes.specs.Model.FileNames.{log_name};
 ghost use Rattle.rk_bytes.specs.Model.LogItems.{log_items};
-ghost use Rattle.rk_bytes.specs.Model.Lines.{item_line};
-ghost use Rattle.rk_bytes.specs.Model.Output.{dump_wal_output};
+ghost use Rattle.rk_bytes.specs.Model.Lines.{batch_lines, part_line};
+ghost use Rattle.rk_bytes.specs.Model.Output.{item_lines, dump_wal_output};
 ghost use Rattle.rk_disk.specs.Left.{IsLeft};
+ghost use Rattle.rk_log.specs.Items.{item_of, is_end};
+ghost use Rattle.rk_log.specs.Left.{bytes_before};
 ghost use Rattle.rk_ldb.specs.Answers.{IsCommandAnswer};
-ghost use Rattle.rk_log.specs.Items.{item_of};
-ghost use Rattle.rk_ldb.specs.Stops.{TookLine, TookUpTo, DiskCounts, SinkCounts, DiskStops, OutputStops};
-ghost use Rattle.rk_ldb.specs.Last.{is_last};
+ghost use Rattle.rk_ldb.specs.Stops.{TookUpTo, DiskCounts, SinkCounts, OutputStops};
+ghost use Rattle.rk_ldb.specs.Wrote.{dump_lines, WritesBlock};
 
-use crate::lines::{log_name, no_log_line, set_item_line, write_line};
+use crate::lines::{log_name, no_log_line, write_line};
 use crate::stop::Stop;
-use rk_bytes::Bytes;
+use rk_batch::BatchView;
 use rk_bytes::model::Status;
-use rk_disk::{Disk, Sink, read_file};
-use rk_log::{Item, LogReader};
+use rk_disk::{Disk, Sink, read_piece};
+use rk_log::{BLOCK_LEN, FeedItem, Item, LogFeed};
+use rk_text::Line;
 use std::alloc::Global;
 
-/// Writes a line for each item of the log with this number, or says that it isn't there.
+/// Writes a line for each item of the log with this number and lines for what stands in its records,
+/// or says that it isn't there. The log is read block by block.
 pub(crate) fn dump_wal<D: Disk, S: Sink>(
     alloc: Global,
     number: u64,
+    hex: bool,
     disk: &mut D,
     out: &mut S,
 ) -> Result<Status, Stop>
-    ensures lines { IfSome (contents_told (D.told disk.old)) (λ d. TookUpTo (S.taken out.old) (S.taken out.new) (dump_wal_output number (get d (log_name number))).lines result) }
-    ensures status { IfSome (contents_told (D.told disk.old)) (λ d. IfOk result (λ status. status ≡ (dump_wal_output number (get d (log_name number))).status)) }
+    ensures lines { IfSome (contents_told (D.told disk.old)) (λ d. TookUpTo (S.taken out.old) (S.taken out.new) (dump_wal_output number hex (get d (log_name number))).lines result) }
+    ensures status { IfSome (contents_told (D.told disk.old)) (λ d. IfOk result (λ status. status ≡ (dump_wal_output number hex (get d (log_name number))).status)) }
     ensures answers { IfOk result IsCommandAnswer }
     ensures disk_count { DiskCounts (D.faults disk.old) (D.faults disk.new) result }
     ensures output_count { SinkCounts (S.faults out.old) (S.faults out.new) result }
     ensures left { IsLeft (D.told disk.old) (D.told disk.new) }
 {
-    let file = read_log(alloc, number, disk)?;
-    write_dump(alloc, number, file, out)
-}
-
-/// The whole file of the log with this number, or `None` where it isn't there.
-fn read_log<D: Disk>(alloc: Global, number: u64, disk: &mut D) -> Result<Option<Bytes>, Stop>
-    ensures file { IfOk result (λ file. IfSome (contents_told (D.told disk.old)) (λ d. file ≡ get d (log_name number))) }
-    ensures counts { DiskStops (D.faults disk.old) (D.faults disk.new) result }
-    ensures left { IsLeft (D.told disk.old) (D.told disk.new) }
-{
     let name = log_name(alloc, number)?;
-    let file = read_file(alloc, disk, name.as_str())?;
-    Ok(file)
-}
-
-/// Writes what is to be said of a log's file.
-fn write_dump<S: Sink>(
-    alloc: Global,
-    number: u64,
-    file: Option<Bytes>,
-    out: &mut S,
-) -> Result<Status, Stop>
-    ensures lines { TookUpTo (S.taken out.old) (S.taken out.new) (dump_wal_output number file).lines result }
-    ensures status { IfOk result (λ status. status ≡ (dump_wal_output number file).status) }
-    ensures answers { IfOk result IsCommandAnswer }
-    ensures counts { OutputStops (S.faults out.old) (S.faults out.new) result }
-{
-    match file {
-        Some(bytes) => {
-            write_items(alloc, bytes.as_slice(), number, out)?;
+    match disk.size(name.as_str())? {
+        Some(size) => {
+            write_log(alloc, name.as_str(), number, size, hex, disk, out)?;
             Ok(Status::Done)
         }
         None => {
             let line = no_log_line(alloc, number)?;
-            write_line(line.as_str(), out)?;
+            write_line(line.as_bytes(), out)?;
             Ok(Status::Refused)
         }
     }
 }
 
-/// Writes a line for each item of the log's bytes. One buffer serves for all lines.
-fn write_items<S: Sink>(alloc: Global, bytes: &[u8], number: u64, out: &mut S) -> Result<(), Stop>
-    ensures lines { TookUpTo (S.taken out.old) (S.taken out.new) (map item_line (log_items number bytes.now)) result }
+/// Writes the lines of a log's file, of which the disk says that it has `size` bytes. One buffer serves
+/// for all blocks, and one for all lines.
+fn write_log<D: Disk, S: Sink>(
+    alloc: Global,
+    name: &str,
+    number: u64,
+    size: u64,
+    hex: bool,
+    disk: &mut D,
+    out: &mut S,
+) -> Result<(), Stop>
+    ensures lines { IfSome (contents_told (D.told disk.old)) (λ d. (bytes : List ℕ) → get d name.now ≡ Some bytes → length bytes ≡ size
+        → TookUpTo (S.taken out.old) (S.taken out.new) (dump_lines hex (log_items number bytes)) result) }
+    ensures disk_count { DiskCounts (D.faults disk.old) (D.faults disk.new) result }
+    ensures output_count { SinkCounts (S.faults out.old) (S.faults out.new) result }
+    ensures left { IsLeft (D.told disk.old) (D.told disk.new) }
+{
+    let mut buffer = vec![in alloc; 0; BLOCK_LEN]?;
+    let mut feed = LogFeed::new(alloc, number);
+    let mut line = Line::new(alloc);
+    let mut at = 0;
+    loop {
+        let wanted = block_len(size - at);
+        let len = read_piece(disk, name, at, &mut buffer[..wanted])?;
+        let last = len < BLOCK_LEN || size - at == BLOCK_LEN as u64;
+        if write_block(&mut feed, &buffer[..len], last, hex, &mut line, out)? {
+            return Ok(());
+        }
+        at += BLOCK_LEN as u64;
+    }
+}
+
+/// The length of the next block, of so many bytes that are left.
+fn block_len(left: u64) -> usize
+    ensures { result ≡ min left BLOCK_LEN }
+{
+    if left < BLOCK_LEN as u64 {
+        left as usize
+    } else {
+        BLOCK_LEN
+    }
+}
+
+/// Writes the lines of the items that a block ends, and says whether the log's end was among them.
+fn write_block<S: Sink>(
+    feed: &mut LogFeed,
+    block: &[u8],
+    last: bool,
+    hex: bool,
+    line: &mut Line,
+    out: &mut S,
+) -> Result<bool, Stop>
+    requires within { length block.now ≤ BLOCK_LEN }
+    requires full { last ≡ false → length block.now ≡ BLOCK_LEN }
+    requires fits { bytes_before feed.old + length block.now < 2 ^ 64 }
+    ensures lines { WritesBlock (S.taken out.old) (S.taken out.new) hex feed.old block.now last result feed.new }
+    ensures more { IfOk result (λ ended. ended ≡ false → last ≡ false) }
+    ensures before { IfOk result (λ ended. ended ≡ false → bytes_before feed.new ≡ bytes_before feed.old + length block.now) }
     ensures counts { OutputStops (S.faults out.old) (S.faults out.new) result }
 {
-    let mut reader = LogReader::new(bytes, number);
-    let mut line = String::new(alloc);
     loop {
-        let item = reader.next(alloc)?;
-        let was_last = write_item(item, &mut line, out)?;
-        if was_last {
-            return Ok(());
+        match feed.next(block, last)? {
+            FeedItem::Item(item) => {
+                if write_item(item, hex, line, out)? {
+                    return Ok(true);
+                }
+            }
+            FeedItem::More => return Ok(false),
         }
     }
 }
 
-/// Writes the line of one item, and says whether that is the log's last. The buffer holds the line.
-fn write_item<S: Sink>(item: Item<'_>, line: &mut String, out: &mut S) -> Result<bool, Stop>
-    ensures line { TookLine (S.taken out.old) (S.taken out.new) (item_line (item_of item.entry)) result }
-    ensures last { IfOk result (λ last. last ≡ is_last (item_of item.entry)) }
+/// Writes the lines of an item, and says whether it is the log's end.
+fn write_item<S: Sink>(
+    item: Item<'_>,
+    hex: bool,
+    line: &mut Line,
+    out: &mut S,
+) -> Result<bool, Stop>
+    ensures lines { TookUpTo (S.taken out.old) (S.taken out.new) (item_lines (codes "record") (batch_lines hex) (item_of item.entry)) result }
+    ensures last { IfOk result (λ ended. ended ≡ is_end (item_of item.entry)) }
     ensures counts { OutputStops (S.faults out.old) (S.faults out.new) result }
 {
-    set_item_line(line, &item)?;
-    write_line(line.as_str(), out)?;
-    Ok(matches!(item, Item::End(..)))
+    line.set_item(&item, "record")?;
+    write_line(line.as_slice(), out)?;
+    match item {
+        Item::Rec(piece, _) => {
+            write_batch(piece.as_slice(), hex, line, out)?;
+            Ok(false)
+        }
+        Item::Gap(..) => Ok(false),
+        Item::End(..) => Ok(true),
+    }
+}
+
+/// Writes the lines of a record's payload, which is a write batch or none.
+fn write_batch<S: Sink>(
+    payload: &[u8],
+    hex: bool,
+    line: &mut Line,
+    out: &mut S,
+) -> Result<(), Stop>
+    ensures lines { TookUpTo (S.taken out.old) (S.taken out.new) (batch_lines hex payload.now) result }
+    ensures counts { OutputStops (S.faults out.old) (S.faults out.new) result }
+{
+    match BatchView::read(payload) {
+        Ok(mut view) => {
+            line.set_batch(&view)?;
+            write_line(line.as_slice(), out)?;
+            write_parts(&mut view, hex, line, out)
+        }
+        Err(fault) => {
+            line.set_bad_batch(fault)?;
+            write_line(line.as_slice(), out)
+        }
+    }
+}
+
+/// Writes a line for each part of a batch that is left, from the view of the batch.
+fn write_parts<S: Sink>(
+    view: &mut BatchView<'_>,
+    hex: bool,
+    line: &mut Line,
+    out: &mut S,
+) -> Result<(), Stop>
+    ensures lines { TookUpTo (S.taken out.old) (S.taken out.new) (map (part_line hex) view.old.left) result }
+    ensures counts { OutputStops (S.faults out.old) (S.faults out.new) result }
+{
+    while let Some(part) = view.next_record() {
+        line.set_part(&part, hex)?;
+        write_line(line.as_slice(), out)?;
+    }
+    Ok(())
 }

@@ -1,0 +1,18 @@
+-- The commands that the program has so far. The words of any other are answered like those of none.
+use Rattle.std.specs.Prelude.{ℕ, List, Option, Some, None}
+use Rattle.rk_bytes.specs.Model.DiskImages.{Directory}
+use Rattle.rk_bytes.specs.Model.Grammar.{Command, dump_wal, command_of}
+use Rattle.rk_bytes.specs.Model.Output.{Output, command_output}
+
+-- the command, where the program has it
+abbrev pub built : Option Command → Option Command
+built (Some (dump_wal n hex)) = Some (dump_wal n hex)
+built _ = None
+
+-- the command that the words spell, where the program has it
+abbrev pub built_command : List (List ℕ) → Option Command
+built_command words = built (command_of words)
+
+-- what the program writes for these words over the directory
+abbrev pub output_so_far : List (List ℕ) → Directory → Output
+output_so_far words d = command_output (built_command words) d
