@@ -3,6 +3,7 @@ mod BatchLemmas
 mod BlockLaw
 mod BlockLemmas
 mod DeltaLemmas
+mod DescentLemmas
 mod DiskLaw
 mod EditFields
 mod EditFiles
