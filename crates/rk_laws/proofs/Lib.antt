@@ -10,6 +10,7 @@ mod EditFiles
 mod EditTracked
 mod EntryLemmas
 mod InTurn
+mod LostNames
 mod ManifestUnits
 mod Orders
 mod PartingLemmas

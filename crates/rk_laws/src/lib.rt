@@ -30,4 +30,4 @@ pub use log_items::one_parting;
 pub use manifest::one_list_of_units;
 pub use numbers::{one_varint, shortest_varint, varint_round_trip, zigzag_round_trip};
 pub use records::{last_of_appended, slot_order};
-pub use salvage::{nothing_to_add, records_in_order};
+pub use salvage::{nothing_to_add, one_free_lost_name, records_in_order};

@@ -261,12 +261,12 @@ kept_records tables = all_records (kept_tables tables)
 abbrev pub taken_records : List TableFile → List (ℕ × List Item) → List Record
 taken_records tables logs = all_records (partly_read tables) ++ (kept_records tables ++ log_records (known_families tables) logs)
 
--- Entries in the order of their places. Of two at one place the first counts.
+-- Entries in the order of their slots. Of two in one slot the first counts.
 unfoldable pub placed : List (Slot × Record) → List (Slot × Record)
 placed [] = []
 placed (entry ∷ entries) = put slot_cmp entry.0 entry.1 (placed entries)
 
--- The last record at each place in the list, in the order of the places: the entries of `last_records` (law
+-- The last record in each slot of a list, in the order of the slots: the entries of `last_records` (law
 -- `records_in_order`).
 abbrev pub last_placed : List Record → List (Slot × Record)
 last_placed records = placed (map (λ r. (slot_of r, r)) (reverse records))
@@ -274,7 +274,7 @@ last_placed records = placed (map (λ r. (slot_of r, r)) (reverse records))
 abbrev pub last_in_order : List Record → List Record
 last_in_order records = map (λ entry. entry.1) (last_placed records)
 
--- one of the entries stands at the record's place and has its value
+-- one of the entries stands in the record's slot and has its value
 abbrev pub is_held : List (Slot × Record) → Record → Bool
 is_held held r = option_map_or (λ other. bytes_eq other.value r.value) (find slot_cmp (slot_of r) held) false
 
@@ -282,7 +282,7 @@ is_held held r = option_map_or (λ other. bytes_eq other.value r.value) (find sl
 abbrev pub not_held : List Record → List Record → List Record
 not_held held records = filter (λ r. not (is_held (last_placed held) r)) (last_in_order records)
 
--- The records that tables have to be added for, in the order of their places: those that the kept tables
+-- The records that tables have to be added for, in the order of their slots: those that the kept tables
 -- alone don't hold with the same value.
 abbrev pub remainder_of : List TableFile → List (ℕ × List Item) → List Record
 remainder_of tables logs = not_held (kept_records tables) (taken_records tables logs)
@@ -427,14 +427,15 @@ pub record IsSalvage (state : State) (d : Directory) : Type 0 where
   pub records : state.records ≡ salvage_records d
   pub tombs : (r : Record) → is_covered state.tombs r ≡ is_covered (uncut_tombs d) r
 
--- the names below `lost/` for this name from the first on, as many as n and one more
-abbrev lost_names : List ℕ → ℕ → List (List ℕ)
-lost_names name zero = lost_name name 0 ∷ []
-lost_names name (suc n) = lost_names name n ++ lost_name name (suc n) ∷ []
+-- the names below `lost/` for this name, from the one that is tried so late on, and so many more
+abbrev pub lost_names : List ℕ → ℕ → ℕ → List (List ℕ)
+lost_names name tried zero = lost_name name tried ∷ []
+lost_names name tried (suc more) = lost_name name tried ∷ lost_names name (suc tried) more
 
--- the first name below `lost/` that isn't taken
+-- The first name below `lost/` that isn't taken. One of the first is free, since more of them are looked at than
+-- are taken (law `one_free_lost_name`).
 unfoldable pub free_lost_name : List ℕ → List (List ℕ) → List ℕ
-free_lost_name name taken = unwrap_or (first_that (λ lost. not (list_any (bytes_eq lost) taken)) (lost_names name (length taken))) (lost_name name 0)
+free_lost_name name taken = unwrap_or (first_that (λ lost. not (list_any (bytes_eq lost) taken)) (lost_names name 0 (length taken))) (lost_name name 0)
 
 -- The files in the order in which they are moved, each with its name below `lost/`, which is free beside the
 -- names that are taken and those given before it.
