@@ -3,6 +3,7 @@
 #![tactic(auto)]
 
 mod batch;
+mod best_efforts;
 mod blocks;
 mod checksums;
 mod commands;
@@ -14,6 +15,7 @@ mod numbers;
 mod records;
 
 pub use batch::one_batch;
+pub use best_efforts::one_best_vector;
 pub use blocks::{one_block, one_delta_index};
 pub use checksums::{crc32c_of_appended, mask_round_trip};
 pub use commands::one_command;
