@@ -3,6 +3,7 @@
 #![tactic(auto)]
 
 mod batch;
+mod best_efforts;
 mod blocks;
 mod checksums;
 mod commands;
@@ -18,6 +19,8 @@ mod salvage;
 
 pub use batch::one_batch;
 pub use blocks::{one_block, one_delta_index, one_index};
+pub use best_efforts::one_best_vector;
+pub use blocks::{one_block, one_delta_index};
 pub use checksums::{crc32c_of_appended, mask_round_trip};
 pub use commands::one_command;
 pub use disk_images::{contents_at_rest, image_of_an_image, images_of_synced_names, one_image_at_rest};
