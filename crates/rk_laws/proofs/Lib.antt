@@ -4,6 +4,7 @@ mod BestVector
 mod BlockLaw
 mod BlockLemmas
 mod DeltaLemmas
+mod DescentLemmas
 mod DiskLaw
 mod EditFields
 mod EditFiles
