@@ -1,3 +1,4 @@
+pub mod BestEfforts
 pub mod BlockEntries
 pub mod Checksums
 pub mod DiskImages

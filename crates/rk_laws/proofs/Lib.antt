@@ -8,8 +8,11 @@ mod EditFields
 mod EditFiles
 mod EditTracked
 mod EntryLemmas
+mod FixedNumbers
 mod InTurn
+mod IndexLaw
 mod ManifestUnits
+mod NameLemmas
 mod Orders
 mod PartingLemmas
 mod Readers

@@ -31,7 +31,7 @@ use Rattle.rk_bytes.specs.declared.model.salvage.Kept.{Kept}
 use Rattle.rk_bytes.specs.declared.model.salvage.Moved.{Moved}
 use Rattle.rk_bytes.specs.declared.model.salvage.Report.{Report}
 use Rattle.rk_bytes.specs.Model.Numbers.{◌>>=◌, in_turn}
-use Rattle.rk_bytes.specs.Model.Checksums.{crc_bit, crc_bits, crc_bytes, crc32c}
+use Rattle.rk_bytes.specs.Model.Checksums.{pieces, crc_bit, crc_bits, crc_bytes, crc32c}
 use Rattle.rk_bytes.specs.Model.BlockEntries.{block_entries, entries_after, index_entries}
 use Rattle.rk_bytes.specs.Model.TableFooter.{footer_of, checked_block}
 use Rattle.rk_bytes.specs.Model.TableStatus.{TableFault, damaged, unsupported, BlockReader, reader_of, DataEntry, data_block, record_in, is_set, user_separators, family_of, family_name_of, is_range_deletion, TableHead, head_with, Good, table_with, table_status}
@@ -535,7 +535,7 @@ of_an_unsupported_tag = refl
 
 -- a manifest that adds table 8, a log 7, and a name that doesn't count
 greatest_of_a_listed_table : greatest_number ((codes "000007.log", []) ∷ (codes "MANIFEST-000002", 0x2d ∷ 0x09 ∷ 0xe6 ∷ 0xca ∷ 24 ∷ 0 ∷ 1 ∷ 7 ∷ 0 ∷ 8 ∷ 100 ∷ 9 ∷ codes "a" ++ 1 ∷ 1 ∷ 0 ∷ 0 ∷ 0 ∷ 0 ∷ 0 ∷ 0 ∷ 9 ∷ codes "a" ++ 1 ∷ 1 ∷ 0 ∷ 0 ∷ 0 ∷ 0 ∷ 0 ∷ 0 ∷ []) ∷ (codes "lost/000009.log", []) ∷ []) ≡ 8
-unfolding greatest_number numbered name_of digits log_marks blocks_marks block_len marks_from fragment_found found crc32c crc_bytes crc_bits crc_bit edit_fields in_turn
+unfolding greatest_number numbered name_of digits log_marks blocks_marks block_len pieces marks_from fragment_found found crc32c crc_bytes crc_bits crc_bit edit_fields in_turn
 greatest_of_a_listed_table = refl
 
 of_a_taken_lost_name : free_lost_name (codes "000005.log") (codes "lost/000005.log" ∷ codes "000005.log" ∷ codes "lost/000005.log.2" ∷ []) ≡ codes "lost/000005.log.1"

@@ -12,7 +12,7 @@ use Rattle.rk_bytes.specs.declared.model.salvage.FamilyName.{FamilyName}
 use Rattle.rk_bytes.specs.declared.model.salvage.Moved.{Moved}
 use Rattle.rk_bytes.specs.declared.model.salvage.Report.{Report}
 use Rattle.rk_bytes.specs.Model.Numbers.{in_turn}
-use Rattle.rk_bytes.specs.Model.Checksums.{crc_bit, crc_bits, crc_bytes, crc32c}
+use Rattle.rk_bytes.specs.Model.Checksums.{pieces, crc_bit, crc_bits, crc_bytes, crc32c}
 use Rattle.rk_bytes.specs.Model.LogMarks.{log_marks, blocks_marks, block_len, marks_from, fragment_found, found}
 use Rattle.rk_bytes.specs.Model.FileNames.{name_of}
 use Rattle.rk_bytes.specs.Model.InternalKey.{internal_key}
@@ -50,16 +50,16 @@ directory_with table = (codes "000004.sst", good_table) ∷ (codes "000005.log",
 
 -- a report, computed
 computed : Files → Result Report SurveyErr
-unfolding of_files numbered greatest_number agreeing placed free_lost_name moves readable_records table_part table_status table_with footer_of checked_block internal_key block_entries entries_after index_entries slot_cmp batch_of in_turn log_marks blocks_marks block_len marks_from fragment_found found name_of digits crc32c crc_bytes crc_bits crc_bit
+unfolding of_files numbered greatest_number agreeing placed free_lost_name moves readable_records table_part table_status table_with footer_of checked_block internal_key block_entries entries_after index_entries slot_cmp batch_of in_turn log_marks blocks_marks block_len pieces marks_from fragment_found found name_of digits crc32c crc_bytes crc_bits crc_bit
 computed files = of_files report files
 
 -- what is admitted, in order, and what of it is added to the tables
 admitted : Files → List Record
-unfolding numbered agreeing placed readable_records table_part table_status table_with footer_of checked_block internal_key block_entries entries_after index_entries slot_cmp batch_of in_turn log_marks blocks_marks block_len marks_from fragment_found found name_of digits crc32c crc_bytes crc_bits crc_bit
+unfolding numbered agreeing placed readable_records table_part table_status table_with footer_of checked_block internal_key block_entries entries_after index_entries slot_cmp batch_of in_turn log_marks blocks_marks block_len pieces marks_from fragment_found found name_of digits crc32c crc_bytes crc_bits crc_bit
 admitted files = last_in_order (taken_records (tables_in files) (logs_in files))
 
 added : Files → List Record
-unfolding numbered agreeing placed readable_records table_part table_status table_with footer_of checked_block internal_key block_entries entries_after index_entries slot_cmp batch_of in_turn log_marks blocks_marks block_len marks_from fragment_found found name_of digits crc32c crc_bytes crc_bits crc_bit
+unfolding numbered agreeing placed readable_records table_part table_status table_with footer_of checked_block internal_key block_entries entries_after index_entries slot_cmp batch_of in_turn log_marks blocks_marks block_len pieces marks_from fragment_found found name_of digits crc32c crc_bytes crc_bits crc_bit
 added files = remainder_of (tables_in files) (logs_in files)
 
 put_of : List ℕ → ℕ → List ℕ → Record

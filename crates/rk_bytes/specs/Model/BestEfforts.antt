@@ -1,0 +1,239 @@
+-- Best-efforts opening: how far the files that are whole let each family come (the idea is that of
+-- `best_efforts_recovery` in db/version_edit_handler.cc). When a file is whole, the points of families, what a
+-- group of edits asks of them, which points are the best and which manifest counts are this project's own rules.
+use Rattle.std.specs.Prelude.{◌≡◌, ℕ, zero, suc, ◌-◌, ◌*◌, ◌<◌, ◌≤◌, Bool, true, false, not, ◌&&◌, ◌||◌, ◌⊎◌, List, [], ◌∷◌, ◌++◌, length, map, flat_map, filter_map, filter, max, nat_lt, nat_le, nat_eq, ◌==◌, if◌then◌else◌, Option, Some, None, ok_or, is_ok, Result, Ok, Err, codes, refl}
+use Rattle.std.specs.List.{AllByRecursion, list_any, list_all, reduce}
+use Rattle.std.specs.FinMap.{get, entries}
+use Rattle.rk_bytes.specs.declared.model.name.FileName.{FileName}
+use Rattle.rk_bytes.specs.declared.model.name.FileName.TheVariants.{Manifest as manifest_file}
+use Rattle.rk_bytes.specs.declared.model.key.Kind.TheVariants.{Value}
+use Rattle.rk_bytes.specs.declared.model.manifest.FileMeta.{FileMeta}
+use Rattle.rk_bytes.specs.declared.model.manifest.FamilyState.{FamilyState}
+use Rattle.rk_bytes.specs.declared.model.manifest.Version.{Version}
+use Rattle.rk_bytes.specs.declared.model.view.FamilyLine.{FamilyLine}
+use Rattle.rk_bytes.specs.declared.model.view.Point.{Point}
+use Rattle.rk_bytes.specs.declared.model.open.OpenErr.{OpenErr}
+use Rattle.rk_bytes.specs.declared.model.open.OpenErr.TheVariants.{UnsupportedTable, NoUsableManifest}
+use Rattle.rk_bytes.specs.Model.Numbers.{◌>>=◌}
+use Rattle.rk_bytes.specs.Model.DiskImages.{Directory}
+use Rattle.rk_bytes.specs.Model.FileNames.{manifest_name, name_of}
+use Rattle.rk_bytes.specs.Model.BlockEntries.{each}
+use Rattle.rk_bytes.specs.Model.InternalKey.{internal_key}
+use Rattle.rk_bytes.specs.Model.VersionEdit.{Field, log_number, next_file, last_sequence, add_file, family, family_add, file_with, added_in}
+use Rattle.rk_bytes.specs.Model.Manifest.{ManifestUnit, file_meta, first_version, steps_in_order, edit_step, overlap, unit_step, version_after, version_at, complete, manifest_units, has_id}
+use Rattle.rk_bytes.specs.Model.Opening.{Best, Files, Listed, TableFile, in_order, table_file, state_with}
+
+-- the families that are live after the first so many units, and none where one of these is refused
+abbrev pub families_at : List ManifestUnit → ℕ → List FamilyState
+families_at units point = elim (version_at units point) [ Ok version ↦ version.families | Err why ↦ [] ]
+
+-- the families that are live after all units
+abbrev pub last_families : List ManifestUnit → List FamilyState
+last_families units = families_at units (length units)
+
+-- the files of the family with this id after the first so many units, and none where it isn't live there
+abbrev pub files_at : List ManifestUnit → ℕ → ℕ → List FileMeta
+files_at units id point = flat_map (λ live. live.files) (filter (has_id id) (families_at units point))
+
+-- the files that units add, in order
+abbrev pub listed : List ManifestUnit → List FileMeta
+listed units = flat_map (λ unit. flat_map (λ edit. map file_meta (filter_map added_in edit)) unit.edits) units
+
+-- A test of files, at each point of a family: every file that the family has there passes.
+abbrev pub all_pass : (FileMeta → Bool) → List ManifestUnit → ℕ → ℕ → Bool
+all_pass is_whole units id point = list_all is_whole (files_at units id point)
+
+-- the places of the units that are groups, of units of which the first is at this place
+abbrev pub group_places : ℕ → List ManifestUnit → List ℕ
+group_places place [] = []
+group_places place (unit ∷ units) = (if unit.is_group then place ∷ [] else []) ++ group_places (suc place) units
+
+-- The family with this id was live before the unit at this place. A group there ties all such families that
+-- are live after all units.
+abbrev pub is_tied : List ManifestUnit → ℕ → ℕ → Bool
+is_tied units place id = list_any (has_id id) (families_at units (place - 1))
+
+-- The families that are live after all units, in rising id, each with how many units count for it.
+pub record IsVector (units : List ManifestUnit) (points : List Point) : Type 0 where
+  pub families : map (λ point. point.family) points ≡ map (λ live. live.id) (last_families units)
+  pub within : AllByRecursion (λ point. point.at ≤ length units) points
+
+-- The families that a group at this place ties are all at it or later, or all before it.
+abbrev pub StandTogether : List ManifestUnit → List Point → ℕ → Type 0
+StandTogether units points place =
+    AllByRecursion (λ point. is_tied units place point.family ≡ true → place ≤ point.at) points
+    ⊎ AllByRecursion (λ point. is_tied units place point.family ≡ true → point.at < place) points
+
+-- The points of a vector qualify: every file of each family at its point is whole, as `whole_at` tells of a
+-- family and a point, and no group is applied to one of the families that it ties and not to another.
+pub record Qualifies (units : List ManifestUnit) (whole_at : ℕ → ℕ → Bool) (points : List Point) : Type 0 where
+  pub vector : IsVector units points
+  pub whole : AllByRecursion (λ point. whole_at point.family point.at ≡ true) points
+  pub together : AllByRecursion (StandTogether units points) (group_places 1 units)
+
+-- Points of the same families, each of the first at most that of the second.
+abbrev pub AtMost : List Point → List Point → Type 0
+AtMost [] [] = Unit {0}
+AtMost (a ∷ more) (b ∷ others) = (a.family ≡ b.family) × (a.at ≤ b.at) × AtMost more others
+AtMost _ _ = ⊥
+
+-- The best points: they qualify, and family by family they are at least every other points that qualify. There is
+-- one such vector, `best_points` (law `one_best_vector`).
+pub record IsGreatest (units : List ManifestUnit) (whole_at : ℕ → ℕ → Bool) (points : List Point) : Type 0 where
+  pub qualifies : Qualifies units whole_at points
+  pub greatest : (others : List Point) → Qualifies units whole_at others → AtMost others points
+
+-- a family that the group at this place ties stands before it
+abbrev pub stands_before : List ManifestUnit → List Point → ℕ → Bool
+stands_before units points place = list_any (λ point. is_tied units place point.family && nat_lt point.at place) points
+
+-- The point can't be kept: a file there isn't whole, or a group before it ties the family to one that stands before
+-- the group.
+abbrev pub cannot_stay : List ManifestUnit → (ℕ → ℕ → Bool) → List Point → Point → Bool
+cannot_stay units whole_at points point =
+    not (whole_at point.family point.at)
+    || list_any (λ place. nat_le place point.at && is_tied units place point.family && stands_before units points place) (group_places 1 units)
+
+-- the points with those lowered by one that can't be kept
+abbrev pub lowered : List ManifestUnit → (ℕ → ℕ → Bool) → List Point → List Point
+lowered units whole_at points = map (λ point. if cannot_stay units whole_at points point then record point { at = point.at - 1 } else point) points
+
+-- the points lowered up to n times, until all can be kept
+unfoldable pub lowered_until : ℕ → List ManifestUnit → (ℕ → ℕ → Bool) → List Point → List Point
+lowered_until zero units whole_at points = points
+lowered_until (suc n) units whole_at points =
+    if list_any (cannot_stay units whole_at points) points then lowered_until n units whole_at (lowered units whole_at points) else points
+
+-- each family at this point
+abbrev pub all_at : ℕ → List FamilyState → List Point
+all_at point families = map (λ live. record { family = live.id; at = point }) families
+
+-- the best points
+abbrev pub best_points : List ManifestUnit → (ℕ → ℕ → Bool) → List Point
+best_points units whole_at =
+    let families = last_families units in
+    lowered_until (length families * length units) units whole_at (all_at (length units) families)
+
+-- A table's status can be used: it is there with the stated size and isn't damaged, and the records of a good one lie
+-- within the stated bounds. One that isn't supported counts too.
+abbrev pub can_be_used : Result TableFile OpenErr → Bool
+can_be_used (Ok table) = true
+can_be_used (Err (UnsupportedTable n what)) = true
+can_be_used (Err _) = false
+
+-- the file is whole, of files under these names and of those of a directory
+abbrev pub is_whole_in : Files → FileMeta → Bool
+is_whole_in files file = can_be_used (table_file files (record { family = 0; file = file }))
+
+abbrev pub is_whole : Directory → FileMeta → Bool
+is_whole d file = is_whole_in (get d) file
+
+-- the units before the first one that isn't applied to the version so far
+abbrev pub applied_to : Version → List ManifestUnit → List ManifestUnit
+applied_to version [] = []
+applied_to version (unit ∷ units) = elim (unit_step unit version) [ Ok next ↦ unit ∷ applied_to next units | Err why ↦ [] ]
+
+-- the units of a manifest that count: those before the first that is refused
+abbrev pub usable : List ManifestUnit → List ManifestUnit
+usable units = applied_to first_version units
+
+-- the units that count of the manifest with this number
+abbrev pub usable_units : Files → ℕ → List ManifestUnit
+usable_units files number = elim (files (manifest_name number)) [ Some bytes ↦ usable (manifest_units bytes).units | None ↦ [] ]
+
+-- the units state a log number, a next file and a last sequence number
+abbrev pub are_complete : List ManifestUnit → Bool
+are_complete units = is_ok (version_at units (length units) >>= complete)
+
+-- the numbers of a directory's manifests
+abbrev pub number_of_manifest : FileName → Option ℕ
+number_of_manifest (manifest_file number) = Some number
+number_of_manifest _ = None
+
+abbrev pub manifest_numbers : Directory → List ℕ
+manifest_numbers d = filter_map (λ (file : List ℕ × List ℕ). number_of_manifest (name_of file.0)) (entries d)
+
+-- the tables of the families at their points, in rising number
+abbrev pub point_tables : List ManifestUnit → Point → List Listed
+point_tables units point = map (λ file. record { family = point.family; file = file }) (files_at units point.family point.at)
+
+abbrev pub tables_at : List ManifestUnit → List Point → List Listed
+tables_at units points = in_order (λ table. table.file.number) (flat_map (point_tables units) points)
+
+-- The line of a live family: its name and log number after all units, and how many files it has at its point.
+abbrev pub files_of : List ManifestUnit → List Point → ℕ → ℕ
+files_of units points id = length (flat_map (point_tables units) (filter (λ point. point.family == id) points))
+
+abbrev pub best_line : List ManifestUnit → List Point → FamilyState → FamilyLine
+best_line units points live = record { id = live.id; name = live.name; log = live.log; files = files_of units points live.id }
+
+-- what the tables at the points hold, or the lowest of them that isn't supported
+unfoldable pub best_with : Files → ℕ → List ManifestUnit → List Point → Result Best OpenErr
+best_with files number units points = do
+  tables ← each (table_file files) (tables_at units points)
+  Ok (record {
+    state = state_with (map (best_line units points) (last_families units)) tables [];
+    manifest = number;
+    units = length units;
+    points = points;
+  })
+
+-- What files and the manifests with these numbers are opened to as far as whole tables go, or the refusal. The
+-- manifest is the one with the greatest number whose units are complete. No log is read.
+unfoldable pub best_files : Files → List ℕ → Result Best OpenErr
+best_files files numbers = do
+  number ← ok_or (reduce max (filter (λ number. are_complete (usable_units files number)) numbers)) NoUsableManifest
+  let units = usable_units files number
+  best_with files number units (best_points units (all_pass (is_whole_in files) units))
+
+-- what a directory is opened to as far as whole tables go
+abbrev pub best_directory : Directory → Result Best OpenErr
+best_directory d = best_files (get d) (manifest_numbers d)
+
+-- a field that adds a file of this number at level 0
+added : ℕ → Field
+added number = add_file (file_with 0 number 9 (internal_key (codes "a") 1 Value) (internal_key (codes "b") 1 Value))
+
+-- the units of a new database, of one edit and of a group
+new_database : ManifestUnit
+new_database = record { edits = (log_number 3 ∷ next_file 4 ∷ last_sequence 0 ∷ []) ∷ []; is_group = false }
+
+one_edit : List Field → ManifestUnit
+one_edit edit = record { edits = edit ∷ []; is_group = false }
+
+one_group : List (List Field) → ManifestUnit
+one_group edits = record { edits = edits; is_group = true }
+
+-- family 1, added with these fields
+family_one : List Field → List Field
+family_one fields = family 1 ∷ family_add (codes "one") ∷ fields
+
+-- the best points where the files with these numbers are whole
+best_where : List ℕ → List ManifestUnit → List Point
+unfolding lowered_until
+best_where whole units = best_points units (all_pass (λ file. list_any (nat_eq file.number) whole) units)
+
+-- Table 6 is cut short and table 8 isn't there, so two units of four count.
+of_broken_files : best_where (4 ∷ []) (new_database ∷ one_edit (added 4 ∷ []) ∷ one_edit (added 6 ∷ []) ∷ one_edit (added 8 ∷ []) ∷ [])
+    ≡ record { family = 0; at = 2 } ∷ []
+unfolding best_where new_database one_edit added internal_key steps_in_order edit_step overlap unit_step version_after lowered_until
+of_broken_files = refl
+
+-- The second group isn't applied to family 1 alone, whose file is whole.
+of_a_broken_group :
+    best_where (4 ∷ 7 ∷ []) (
+    new_database ∷ one_group ((added 4 ∷ []) ∷ family_one [] ∷ []) ∷ one_group ((added 6 ∷ []) ∷ (family 1 ∷ added 7 ∷ []) ∷ []) ∷ [])
+    ≡ record { family = 0; at = 2 } ∷ record { family = 1; at = 2 } ∷ []
+unfolding best_where new_database one_group family_one added internal_key steps_in_order edit_step overlap unit_step version_after lowered_until
+of_a_broken_group = refl
+
+-- A group that is left out of one family holds the other one before it, though a later file of that is whole.
+of_a_group_before_a_file :
+    best_where (5 ∷ []) (one_edit (family_one []) ∷ one_group ((last_sequence 0 ∷ []) ∷ (family 1 ∷ added 9 ∷ []) ∷ []) ∷ one_edit (added 5 ∷ []) ∷ [])
+    ≡ record { family = 0; at = 1 } ∷ record { family = 1; at = 1 } ∷ []
+unfolding best_where one_edit one_group family_one added internal_key steps_in_order edit_step overlap unit_step version_after lowered_until
+of_a_group_before_a_file = refl
+
+of_no_manifest : best_files (λ name. None) [] ≡ Err NoUsableManifest
+unfolding best_files
+of_no_manifest = refl
