@@ -17,7 +17,7 @@ use Rattle.rk_bytes.specs.declared.model.open.OpenErr.TheVariants.{UnsupportedTa
 use Rattle.rk_bytes.specs.Model.Numbers.{◌>>=◌}
 use Rattle.rk_bytes.specs.Model.DiskImages.{Directory}
 use Rattle.rk_bytes.specs.Model.FileNames.{manifest_name, name_of}
-use Rattle.rk_bytes.specs.Model.BlockEntries.{each}
+use Rattle.rk_bytes.specs.Model.BlockEntries.{collected}
 use Rattle.rk_bytes.specs.Model.InternalKey.{internal_key}
 use Rattle.rk_bytes.specs.Model.VersionEdit.{Field, log_number, next_file, last_sequence, add_file, family, family_add, file_with, added_in}
 use Rattle.rk_bytes.specs.Model.Manifest.{ManifestUnit, file_meta, first_version, steps_in_order, edit_step, overlap, unit_step, version_after, version_at, complete, manifest_units, has_id}
@@ -170,7 +170,7 @@ best_line units points live = record { id = live.id; name = live.name; log = liv
 -- what the tables at the points hold, or the lowest of them that isn't supported
 unfoldable pub best_with : Files → ℕ → List ManifestUnit → List Point → Result Best OpenErr
 best_with files number units points = do
-  tables ← each (table_file files) (tables_at units points)
+  tables ← collected (table_file files) (tables_at units points)
   Ok (record {
     state = state_with (map (best_line units points) (last_families units)) tables [];
     manifest = number;
