@@ -19,9 +19,8 @@ mod records;
 mod salvage;
 
 pub use batch::one_batch;
-pub use blocks::{one_block, one_delta_index, one_index};
 pub use best_efforts::one_best_vector;
-pub use blocks::{one_block, one_delta_index};
+pub use blocks::{one_block, one_delta_index, one_index};
 pub use checksums::{crc32c_of_appended, mask_round_trip};
 pub use commands::one_command;
 pub use descent::{descends_from_itself, descent_goes_through, ready_after_a_stop};
