@@ -1,13 +1,13 @@
 -- A batch is read just where its bytes are it.
-use Rattle.std.proofs.Common.{◌≡◌, ℕ, zero, suc, ◌+◌, ◌-◌, ◌≤◌, Bool, true, false, not, ◌||◌, cond, List, [], ◌∷◌, ◌++◌, length, take, drop, Result, Ok, refl, sym, ◌∙◌, ap, subst, arith}
+use Rattle.std.proofs.Common.{◌≡◌, ℕ, zero, suc, ◌+◌, ◌-◌, ◌≤◌, not, List, [], ◌∷◌, ◌++◌, length, take, drop, Result, Ok, refl, sym, ◌∙◌, ap, subst, arith}
 use Rattle.std.specs.Prelude.{◌==◌, nat_lt}
-use Rattle.std.proofs.lemmas.Bool.{eqb-true, eq-eqb, not-false, ltb-false, le-ltb}
-use Rattle.std.proofs.lemmas.List.{length-append, take-append-drop, length-take-le}
-use Rattle.std.proofs.Math.Seq.{take-append_seam, drop-append_seam, drop-drop}
+use Rattle.std.proofs.lemmas.Bool.{eqb-true, eq-eqb, not-false, ltb-false, le-ltb, or_parts, or_from, cond-false}
+use Rattle.std.proofs.lemmas.List.{length-append, take-append-drop, length-take-le, take_at, drop_at}
+use Rattle.std.proofs.Math.Seq.{drop-drop}
 use Rattle.rk_bytes.specs.declared.model.batch.BatchFault.{BatchFault}
 use Rattle.rk_bytes.specs.Model.Numbers.{AreBytes, little_endian, in_turn}
 use Rattle.rk_bytes.specs.Model.InternalKey.{top_sequence}
-use Rattle.rk_bytes.specs.Model.WriteBatch.{Part, change, log_bytes, noop, change_count, part_of_tag, batch_part_at, batch_sequence, stated_count, parts_after_header, Batch, batch_of, SpellsPart, SpellsParts, IsBatch}
+use Rattle.rk_bytes.specs.Model.WriteBatch.{Part, change, log_bytes, noop, change_count, part_of_tag, batch_part_at, batch_sequence, stated_count, parts_after_header, passes_top, Batch, batch_of, SpellsPart, SpellsParts, IsBatch}
 use Rattle.rk_laws.proofs.ReadingLemmas.{both_steps, first_step, passed, bytes_after}
 use Rattle.rk_laws.proofs.BatchLemmas.{part_ok, part-spelled}
 
@@ -71,19 +71,13 @@ record Header (bytes sequence_bytes count_bytes part_bytes : List ℕ) : Type 0 
   parts_are : drop 12 bytes ≡ part_bytes
   long : length bytes ≡ 12 + length part_bytes
 
-taken_front : (n : ℕ) (front rest : List ℕ) → length front ≡ n → take n (front ++ rest) ≡ front
-taken_front n front rest len = subst (λ n. take n (front ++ rest) ≡ front) len (take-append_seam front rest)
-
-left_behind : (n : ℕ) (front rest : List ℕ) → length front ≡ n → drop n (front ++ rest) ≡ rest
-left_behind n front rest len = subst (λ n. drop n (front ++ rest) ≡ rest) len (drop-append_seam front rest)
-
 header_of : (bytes sequence_bytes count_bytes part_bytes : List ℕ) → bytes ≡ sequence_bytes ++ (count_bytes ++ part_bytes) → length sequence_bytes ≡ 8 → length count_bytes ≡ 4 → Header bytes sequence_bytes count_bytes part_bytes
 header_of bytes sequence_bytes count_bytes part_bytes whole eight four =
-    let after : drop 8 bytes ≡ count_bytes ++ part_bytes = ap (drop 8) whole ∙ left_behind 8 sequence_bytes (count_bytes ++ part_bytes) eight in
+    let after : drop 8 bytes ≡ count_bytes ++ part_bytes = ap (drop 8) whole ∙ drop_at sequence_bytes (count_bytes ++ part_bytes) 8 eight in
     record {
-      sequence_is = ap (take 8) whole ∙ taken_front 8 sequence_bytes (count_bytes ++ part_bytes) eight;
-      count_is = ap (take 4) after ∙ taken_front 4 count_bytes part_bytes four;
-      parts_are = sym (drop-drop 4 8 bytes) ∙ ap (drop 4) after ∙ left_behind 4 count_bytes part_bytes four;
+      sequence_is = ap (take 8) whole ∙ take_at sequence_bytes (count_bytes ++ part_bytes) 8 eight;
+      count_is = ap (take 4) after ∙ take_at count_bytes part_bytes 4 four;
+      parts_are = sym (drop-drop 4 8 bytes) ∙ ap (drop 4) after ∙ drop_at count_bytes part_bytes 4 four;
       long = omega (arith, ap length whole, length-append sequence_bytes (count_bytes ++ part_bytes), length-append count_bytes part_bytes);
     }
 
@@ -99,10 +93,6 @@ parts_after bytes parts are long e =
     let lens : length bytes ≡ 12 + length (drop 12 bytes) = omega (arith, ap length (take-append-drop 12 bytes), length-append (take 12 bytes) (drop 12 bytes)) in
     parts_ok (length bytes) (length bytes) (batch_sequence bytes) 12 (batch_sequence bytes) [] (drop 12 bytes) parts (bytes_after bytes (take 12 bytes) (drop 12 bytes) are (sym (take-append-drop 12 bytes))) (omega arith) lens (omega arith) e
 
-neither : (a b : Bool) → (a || b) ≡ false → (a ≡ false) × (b ≡ false)
-neither true b e = absurd cc
-neither false b e = (refl, e)
-
 pub batch_of_ok : (bytes : List ℕ) (batch : Batch) → AreBytes bytes → batch_of bytes ≡ Ok batch → IsBatch bytes batch
 unfolding batch_of
 batch_of_ok bytes batch are e =
@@ -110,8 +100,8 @@ batch_of_ok bytes batch are e =
     let long : 12 ≤ length bytes = ltb-false (length bytes) 12 long_enough.0 in
     both_steps (parts_after_header bytes) _ batch long_enough.1 λ parts read e1.
     let counted = passed (not (stated_count bytes == change_count parts)) _ _ batch e1 in
-    let below = passed (nat_lt top_sequence (batch_sequence bytes) || nat_lt (top_sequence + 1) (batch_sequence bytes + change_count parts)) _ _ batch counted.1 in
-    let tops = neither (nat_lt top_sequence (batch_sequence bytes)) (nat_lt (top_sequence + 1) (batch_sequence bytes + change_count parts)) below.0 in
+    let below = passed (passes_top (batch_sequence bytes) (change_count parts)) _ _ batch counted.1 in
+    let tops = or_parts (nat_lt top_sequence (batch_sequence bytes)) (nat_lt (top_sequence + 1) (batch_sequence bytes + change_count parts)) below.0 in
     let same : record { sequence = batch_sequence bytes; parts = parts } ≡ batch = cc in
     subst (λ batch. IsBatch bytes batch) same (record {
       sequence_bytes = take 8 bytes;
@@ -124,10 +114,6 @@ batch_of_ok bytes batch are e =
       below_top = ltb-false top_sequence (batch_sequence bytes) tops.0;
       last_below_top = ltb-false (top_sequence + 1) (batch_sequence bytes + change_count parts) tops.1;
     })
-
--- a test that isn't met refuses nothing
-refused_not : {A : Type 0} (test : Bool) (x y : A) → test ≡ false → cond test x y ≡ y
-refused_not test x y e = ap (λ test. cond test x y) e
 
 pub batch_of-batch : (bytes : List ℕ) (batch : Batch) → IsBatch bytes batch → batch_of bytes ≡ Ok batch
 unfolding batch_of
@@ -142,10 +128,9 @@ batch_of-batch bytes batch b =
     let top : batch_sequence bytes ≤ top_sequence = omega (arith, b.below_top) in
     let last_top : batch_sequence bytes + change_count batch.parts ≤ top_sequence + 1 = omega (arith, b.last_below_top) in
     let long : 12 ≤ length bytes = omega (arith, h.long) in
-    refused_not (nat_lt (length bytes) 12) _ _ (le-ltb (length bytes) 12 long)
+    cond-false (nat_lt (length bytes) 12) _ _ (le-ltb (length bytes) 12 long)
     ∙ first_step (parts_after_header bytes) _ _ read
-    ∙ refused_not (not (stated_count bytes == change_count batch.parts)) _ _ (ap not (eq-eqb (stated_count bytes) (change_count batch.parts) counted))
-    ∙ refused_not (nat_lt top_sequence (batch_sequence bytes) || nat_lt (top_sequence + 1) (batch_sequence bytes + change_count batch.parts)) _ _
-    (ap (λ a. a || nat_lt (top_sequence + 1) (batch_sequence bytes + change_count batch.parts)) (le-ltb top_sequence (batch_sequence bytes) top)
-    ∙ le-ltb (top_sequence + 1) (batch_sequence bytes + change_count batch.parts) last_top)
+    ∙ cond-false (not (stated_count bytes == change_count batch.parts)) _ _ (ap not (eq-eqb (stated_count bytes) (change_count batch.parts) counted))
+    ∙ cond-false (passes_top (batch_sequence bytes) (change_count batch.parts)) _ _
+    (or_from _ _ (le-ltb top_sequence (batch_sequence bytes) top) (le-ltb (top_sequence + 1) (batch_sequence bytes + change_count batch.parts) last_top))
     ∙ ap (λ (n : ℕ). let r : Result Batch BatchFault = Ok (record { sequence = n; parts = batch.parts }) in r) sequence_is

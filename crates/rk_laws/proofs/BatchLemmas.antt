@@ -1,7 +1,7 @@
 -- A part of a batch is read just where it is spelled.
 use Rattle.std.proofs.Common.{◌≡◌, ◌⊎◌, ℕ, Bool, true, false, ◌||◌, cond, List, [], ◌∷◌, ◌++◌, Option, Some, None, Result, Ok, Err, refl, sym, ◌∙◌, ap, subst, append_assoc, inl, inr}
-use Rattle.std.specs.Prelude.{◌==◌, find}
-use Rattle.std.proofs.lemmas.Bool.{eqb-true}
+use Rattle.std.specs.Prelude.{◌==◌}
+use Rattle.std.proofs.lemmas.Bool.{eqb-true, or_cases}
 use Rattle.rk_bytes.specs.declared.model.key.Kind.{Kind}
 use Rattle.rk_bytes.specs.declared.model.key.Kind.TheVariants.{Deletion, Value, Merge, SingleDeletion, RangeDeletion}
 use Rattle.rk_bytes.specs.declared.model.key.Record.{Record}
@@ -11,20 +11,7 @@ use Rattle.rk_bytes.specs.Model.Numbers.{AreBytes, Read, IsPrefixed, varint32_at
 use Rattle.rk_bytes.specs.Model.InternalKey.{all_kinds}
 use Rattle.rk_bytes.specs.Model.WriteBatch.{Part, change, log_bytes, noop, plain_tag, family_tag, kind_of_tag, names_family, is_unsupported_batch_tag, family_at, value_at, change_at, log_bytes_at, part_of_tag, SpellsFamily, SpellsChangeValue, SpellsChange, SpellsPart}
 use Rattle.rk_laws.proofs.Readers.{reads_or_ok}
-use Rattle.rk_laws.proofs.ReadingLemmas.{both_steps, first_step, passed, varint32_ok, varint32-append, prefixed_ok, prefixed-append}
-
-either_true : (a b : Bool) → (a || b) ≡ true → (a ≡ true) ⊎ (b ≡ true)
-either_true true b e = inl refl
-either_true false b e = inr e
-
--- what is found passes the test
-found_passes : {A : Type 0} (test : A → Bool) (items : List A) (item : A) → find test items ≡ Some item → test item ≡ true
-found_passes test [] item e = absurd cc
-found_passes {A} test (first ∷ items) item e = by (test first) refl e (found_passes test items item)
-  where
-    by : (told : Bool) → test first ≡ told → cond told (Some first) (find test items) ≡ Some item → (find test items ≡ Some item → test item ≡ true) → test item ≡ true
-    by true told e later = let same : first ≡ item = cc in ap test (sym same) ∙ told
-    by false told e later = later e
+use Rattle.rk_laws.proofs.ReadingLemmas.{both_steps, first_step, passed, found_passes, varint32_ok, varint32-append, prefixed_ok, prefixed-append}
 
 no_family : (kind : Kind) → names_family (plain_tag kind) ≡ false
 no_family Deletion = refl
@@ -46,7 +33,7 @@ record TagOf (tag : ℕ) (kind : Kind) : Type 0 where
 
 tag_of : (tag : ℕ) (kind : Kind) → kind_of_tag tag ≡ Some kind → TagOf tag kind
 tag_of tag kind e =
-    elim (either_true (plain_tag kind == tag) (family_tag kind == tag) (found_passes (λ kind. plain_tag kind == tag || family_tag kind == tag) all_kinds kind e)) [
+    elim (or_cases (plain_tag kind == tag) (family_tag kind == tag) (found_passes (λ kind. plain_tag kind == tag || family_tag kind == tag) all_kinds kind e)) [
       | inl plain ↦ let same = sym (eqb-true (plain_tag kind) tag plain) in record { is = inl (same, ap names_family same ∙ no_family kind) }
       | inr named ↦ let same = sym (eqb-true (family_tag kind) tag named) in record { is = inr (same, ap names_family same ∙ a_family kind) }
     ]

@@ -1,5 +1,6 @@
 mod BatchLaw
 mod BatchLemmas
+mod BestVector
 mod BlockLaw
 mod BlockLemmas
 mod DeltaLemmas
@@ -9,9 +10,12 @@ mod EditFields
 mod EditFiles
 mod EditTracked
 mod EntryLemmas
+mod FixedNumbers
 mod InTurn
+mod IndexLaw
 mod LostNames
 mod ManifestUnits
+mod NameLemmas
 mod Orders
 mod PartingLemmas
 mod Readers

@@ -3,6 +3,7 @@
 #![tactic(auto)]
 
 mod batch;
+mod best_efforts;
 mod blocks;
 mod checksums;
 mod commands;
@@ -12,12 +13,14 @@ mod edit;
 mod internal_key;
 mod log_items;
 mod manifest;
+mod names;
 mod numbers;
 mod records;
 mod salvage;
 
 pub use batch::one_batch;
-pub use blocks::{one_block, one_delta_index};
+pub use best_efforts::one_best_vector;
+pub use blocks::{one_block, one_delta_index, one_index};
 pub use checksums::{crc32c_of_appended, mask_round_trip};
 pub use commands::one_command;
 pub use descent::{descends_from_itself, descent_goes_through, ready_after_a_stop};
@@ -28,6 +31,7 @@ pub use edit::one_edit;
 pub use internal_key::{key_order, key_round_trip};
 pub use log_items::one_parting;
 pub use manifest::one_list_of_units;
+pub use names::one_name;
 pub use numbers::{one_varint, shortest_varint, varint_round_trip, zigzag_round_trip};
 pub use records::{last_of_appended, slot_order};
 pub use salvage::{nothing_to_add, one_free_lost_name, records_in_order};

@@ -63,7 +63,7 @@ rises (a ∷ b ∷ numbers) = nat_lt a b && rises (b ∷ numbers)
 rises _ = true
 
 -- a restart offset is the place of an entry that shares nothing
-abbrev is_restart : {V : Type 0} → List (Entry V) → ℕ → Bool
+abbrev pub is_restart : {V : Type 0} → List (Entry V) → ℕ → Bool
 is_restart entries offset = list_any (λ entry. entry.place == offset && entry.shared == 0) entries
 
 -- The restart offsets are right: they rise from 0, and each is that of a restart. Without an entry there is one.

@@ -1,6 +1,6 @@
 -- The directory that `drill` makes and repairs (this project's own rule): one table, and two logs, of which
 -- the first lacks its last byte.
-use Rattle.std.specs.Prelude.{◌≡◌, ℕ, ◌+◌, ◌-◌, ◌*◌, false, List, [], ◌∷◌, ◌++◌, length, map, take, reverse, Option, Some, None, codes, refl}
+use Rattle.std.specs.Prelude.{ℕ, ◌+◌, ◌-◌, ◌*◌, false, List, [], ◌∷◌, length, map, take, reverse, Some, None, codes}
 use Rattle.std.specs.List.{range_with_len}
 use Rattle.std.specs.FinMap.{from_entries}
 use Rattle.rk_bytes.specs.declared.model.key.Kind.TheVariants.{Value}
@@ -33,6 +33,7 @@ up_to n = range_with_len 1 n
 abbrev pub drill_contents : ℕ → TableContents
 drill_contents n = record { family = 0; family_name = codes "default"; records = map (λ i. drill_put i i i) (up_to n); ranges = [] }
 
+-- the table's bytes
 unfoldable pub drill_table : ℕ → List ℕ
 drill_table n = table_bytes false (drill_contents n)
 
@@ -47,10 +48,11 @@ drill_file n = record {
   seqs = Some (record { least = 1; greatest = n });
 }
 
--- the one edit of the manifest, and the manifest
+-- the one edit of the manifest
 abbrev pub drill_edit : ℕ → List Field
 drill_edit n = comparator bytewise_name ∷ log_number 5 ∷ next_file 7 ∷ last_sequence n ∷ add_file (drill_file n) ∷ []
 
+-- the manifest
 unfoldable pub drill_manifest : ℕ → List ℕ
 drill_manifest n = written_log None (edit_bytes (drill_edit n) ∷ [])
 

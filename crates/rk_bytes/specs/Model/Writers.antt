@@ -2,8 +2,8 @@
 -- (table/block_based/block_builder.cc), tables (table/block_based/block_based_table_builder.cc,
 -- table/format.cc), version edits (db/version_edit.cc), and the manifest of a repaired directory, which is
 -- this project's own rule. What is read again from it, the definitions of the readers say.
-use Rattle.std.specs.Prelude.{◌≡◌, ℕ, ◌+◌, ◌-◌, ◌^◌, ◌==◌, max, Bool, List, [], ◌∷◌, ◌++◌, length, map, flat_map, drop, fold, filter, reverse, replicate, sum_by, nat_eq, nat_le, if◌then◌else◌, Option, Some, None, unwrap_or, codes, refl}
-use Rattle.std.specs.List.{common_prefix_len, concat, last_or, scan, zip}
+use Rattle.std.specs.Prelude.{◌≡◌, ℕ, ◌+◌, ◌-◌, ◌^◌, ◌==◌, max, Bool, true, not, List, [], ◌∷◌, ◌++◌, length, map, flat_map, drop, fold, filter, filter_map, reverse, replicate, sum_by, nat_eq, nat_le, if◌then◌else◌, Option, Some, None, unwrap_or, codes, refl}
+use Rattle.std.specs.List.{common_prefix_len, concat, last_or, range_with_len, scan, zip}
 use Rattle.rk_bytes.specs.declared.model.block.Handle.{Handle}
 use Rattle.rk_bytes.specs.declared.model.block.RangeDel.{RangeDel}
 use Rattle.rk_bytes.specs.declared.model.edit.Seqs.{Seqs}
@@ -15,7 +15,7 @@ use Rattle.rk_bytes.specs.Model.Numbers.{fixed_of, varint_of, prefixed_of}
 use Rattle.rk_bytes.specs.Model.Checksums.{block_sum}
 use Rattle.rk_bytes.specs.Model.InternalKey.{internal_key, bytewise_name}
 use Rattle.rk_bytes.specs.Model.TableFooter.{newer_magic}
-use Rattle.rk_bytes.specs.Model.TableStatus.{start_key}
+use Rattle.rk_bytes.specs.Model.TableStatus.{start_key, is_range_deletion}
 use Rattle.rk_bytes.specs.Model.VersionEdit.{Field, NewFile, comparator, log_number, next_file, last_sequence, compact_cursor, delete_file, add_file, previous_log, least_log, family, family_add, family_drop, greatest_family, group, wal_add, wal_delete, ignored}
 use Rattle.rk_bytes.specs.Model.WriteBatch.{plain_tag, family_tag}
 use Rattle.rk_bytes.specs.Model.WrittenLogs.{written_log}
@@ -38,8 +38,8 @@ change_bytes r = family_bytes r ++ prefixed_of r.key ++ value_bytes r.kind r.val
 unfoldable pub batch_bytes : ℕ → List Record → List ℕ
 batch_bytes sequence records = fixed_of 8 sequence ++ fixed_of 4 (length records) ++ flat_map change_bytes records
 
--- items in groups, the last group first, with one more item: it begins a group where the last one is full
-abbrev with_item : {A : Type 0} → (List A → Bool) → List (List A) → A → List (List A)
+-- groups, the last one first, with one more item: it begins a group where the last one is full
+abbrev pub with_item : {A : Type 0} → (List A → Bool) → List (List A) → A → List (List A)
 with_item is_full [] item = (item ∷ []) ∷ []
 with_item is_full (last ∷ groups) item = if is_full last then (item ∷ []) ∷ last ∷ groups else (last ++ item ∷ []) ∷ groups
 
@@ -81,7 +81,7 @@ block_bytes restart_every entries =
 abbrev pub stored : List ℕ → List ℕ
 stored block = block ++ 0 ∷ fixed_of 4 (block_sum Crc32c block 0)
 
--- the handle of a block that stands behind these
+-- the handle of a block that stands behind these, each of which has a trailer of 5 bytes
 abbrev pub handle_behind : List (List ℕ) → List ℕ → Handle
 handle_behind blocks block = record { offset = sum_by (λ other. length other + 5) blocks; size = length block }
 
@@ -101,10 +101,11 @@ pub record TableContents : Type 0 where
   pub records : List Record
   pub ranges : List RangeDel
 
--- the entries of the data blocks, and those of the range deletions' block
+-- the entries of the data blocks, each under its internal key
 abbrev pub data_entries : TableContents → List KeyValue
 data_entries table = map (λ r. (internal_key r.key r.sequence r.kind, r.value)) table.records
 
+-- the entries of the range deletions' block: the start's internal key, and the end
 abbrev pub range_entries : TableContents → List KeyValue
 range_entries table = map (λ range. (start_key range, range.end)) table.ranges
 
@@ -128,14 +129,15 @@ plain_properties table =
     ∷ (codes "rocksdb.index.value.is.delta.encoded", varint_of 0)
     ∷ (codes "rocksdb.num.entries", varint_of (length table.records + length table.ranges)) ∷ []
 
--- The properties that some tables have besides, whose names come after these: how many bytes the internal
--- keys have, and the values.
+-- The properties that the tables of a repair have besides, since RocksDB divides by their sum: how many bytes
+-- the internal keys have, and the values. Their names come after those above.
 abbrev pub size_properties : TableContents → List KeyValue
 size_properties table =
     let entries = data_entries table ++ range_entries table in
     (codes "rocksdb.raw.key.size", varint_of (sum_by (λ entry. length entry.0) entries))
     ∷ (codes "rocksdb.raw.value.size", varint_of (sum_by (λ entry. length entry.1) entries)) ∷ []
 
+-- the properties' block
 abbrev pub properties_block : Bool → TableContents → List ℕ
 properties_block states_sizes table = block_bytes 1 (plain_properties table ++ (if states_sizes then size_properties table else []))
 
@@ -227,29 +229,59 @@ pub record Repaired : Type 0 where
   pub families : List RepairedFamily
 
 -- the edit of the default family
-abbrev default_edit : Repaired → List NewFile → List Field
+abbrev pub default_edit : Repaired → List NewFile → List Field
 default_edit repaired files =
     comparator bytewise_name ∷ log_number repaired.log_number ∷ next_file repaired.next_file ∷ last_sequence repaired.last_sequence
     ∷ greatest_family (fold max 0 (map (λ one. one.id) repaired.families)) ∷ map add_file files
 
 -- The edit that adds the tables of another family, if it has some. It isn't the one that adds the family,
 -- since RocksDB passes over the files in such an edit.
-abbrev file_edits : ℕ → List NewFile → List (List Field)
+abbrev pub file_edits : ℕ → List NewFile → List (List Field)
 file_edits id [] = []
 file_edits id files = (family id ∷ map add_file files) ∷ []
 
 -- the edits of a family
-abbrev family_edits : Repaired → RepairedFamily → List (List Field)
+abbrev pub family_edits : Repaired → RepairedFamily → List (List Field)
 family_edits repaired one =
     if one.id == 0 then default_edit repaired one.files ∷ []
     else (family one.id ∷ family_add one.name ∷ comparator bytewise_name ∷ log_number repaired.log_number ∷ []) ∷ file_edits one.id one.files
 
--- the edits of the manifest of a repaired directory, and the manifest
+-- the edits of the manifest of a repaired directory
 abbrev pub repair_edits : Repaired → List (List Field)
 repair_edits repaired = flat_map (family_edits repaired) repaired.families
 
+-- the manifest of a repaired directory
 unfoldable pub repair_manifest : Repaired → List ℕ
 repair_manifest repaired = written_log None (map edit_bytes (repair_edits repaired))
+
+-- the range deletion that a record is
+abbrev pub range_in : Record → Option RangeDel
+range_in r = if is_range_deletion r.kind then Some (record { start = r.key; end = r.value; sequence = r.sequence }) else None
+
+-- The table that a repair adds for a family, of the records that it lacks, in the order of their places. It
+-- states its sizes.
+abbrev pub added_contents : ℕ → List ℕ → List Record → TableContents
+added_contents id name records =
+    record { family = id; family_name = name; records = filter (λ r. not (is_range_deletion r.kind)) records; ranges = filter_map range_in records }
+
+-- that table's bytes
+unfoldable pub added_table : ℕ → List ℕ → List Record → List ℕ
+added_table id name records = table_bytes true (added_contents id name records)
+
+-- The numbers that a repair takes: one for each added table, then one for the manifest and one for the
+-- temporary file of CURRENT. The log number and the next file's come after them.
+pub record FreshNumbers : Type 0 where
+  pub tables : List ℕ
+  pub manifest : ℕ
+  pub current : ℕ
+  pub log_number : ℕ
+  pub next_file : ℕ
+
+-- these numbers, above the greatest in use, where so many tables are added
+abbrev pub fresh_numbers : ℕ → ℕ → FreshNumbers
+fresh_numbers greatest added =
+    let above = greatest + added in
+    record { tables = range_with_len (greatest + 1) added; manifest = above + 1; current = above + 2; log_number = above + 3; next_file = above + 4 }
 
 -- a record, whose sequence number is left to its batch
 of_kind : ℕ → Kind → List ℕ → List ℕ → Record

@@ -1,17 +1,14 @@
--- Worked examples of tables, version edits and repaired manifests as they are written. The bytes were
--- computed outside.
+-- Worked examples of tables and version edits as they are written. The bytes were computed outside.
 use Rattle.std.specs.Prelude.{◌≡◌, ℕ, ◌-◌, ◌^◌, true, false, List, [], ◌∷◌, ◌++◌, length, map, replicate, Option, Some, None, codes, refl}
 use Rattle.rk_bytes.specs.declared.model.block.RangeDel.{RangeDel}
 use Rattle.rk_bytes.specs.declared.model.edit.Seqs.{Seqs}
 use Rattle.rk_bytes.specs.declared.model.key.Kind.{Kind}
 use Rattle.rk_bytes.specs.declared.model.key.Kind.TheVariants.{Deletion, Value}
 use Rattle.rk_bytes.specs.declared.model.key.Record.{Record}
-use Rattle.rk_bytes.specs.Model.Checksums.{crc_bit, crc_bits, crc_bytes, crc32c, pieces}
+use Rattle.rk_bytes.specs.Model.Checksums.{crc_bit, crc_bits, crc_bytes, crc32c}
 use Rattle.rk_bytes.specs.Model.InternalKey.{internal_key, bytewise_name}
-use Rattle.rk_bytes.specs.Model.LogMarks.{block_len}
 use Rattle.rk_bytes.specs.Model.VersionEdit.{NewFile, comparator, log_number, next_file, last_sequence, compact_cursor, delete_file, add_file, previous_log, least_log, family, family_add, family_drop, greatest_family, group, wal_add, wal_delete}
-use Rattle.rk_bytes.specs.Model.WrittenLogs.{fragment_bytes, record_fragments, record_pieces, written_record, written_log}
-use Rattle.rk_bytes.specs.Model.Writers.{TableContents, RepairedFamily, grouped, run_bytes, block_bytes, data_groups, table_bytes, edit_bytes, repair_manifest}
+use Rattle.rk_bytes.specs.Model.Writers.{TableContents, grouped, run_bytes, block_bytes, data_groups, table_bytes, edit_bytes}
 
 -- a record
 of_key : ℕ → ℕ → Kind → List ℕ → List ℕ → Record
@@ -150,31 +147,3 @@ of_tracked_logs : edit_bytes (wal_add 3 (Some 48) ∷ wal_add 300 None ∷ wal_d
     ≡ 0x87 ∷ 0x40 ∷ 4 ∷ 3 ∷ 2 ∷ 0x30 ∷ 1 ∷ 0x87 ∷ 0x40 ∷ 3 ∷ 0xAC ∷ 2 ∷ 1 ∷ 0x88 ∷ 0x40 ∷ 1 ∷ 4 ∷ []
 unfolding edit_bytes
 of_tracked_logs = refl
-
--- the default family of a repaired directory
-default_family : List NewFile → RepairedFamily
-default_family files = record { id = 0; name = codes "default"; files = files }
-
-of_an_empty_repair : repair_manifest (record { log_number = 3; next_file = 4; last_sequence = 0; families = default_family [] ∷ [] })
-    ≡ (0x3E ∷ 0xA7 ∷ 0x14 ∷ 0xD9 ∷ 0x25 ∷ 0 ∷ 1 ∷ 1 ∷ 0x1A ∷ []) ++ codes "leveldb.BytewiseComparator" ++ 2 ∷
-    3 ∷ 3 ∷ 4 ∷ 4 ∷ 0 ∷ 0xCB ∷ 1 ∷ 0 ∷ []
-unfolding repair_manifest default_family edit_bytes written_log written_record block_len record_pieces pieces record_fragments fragment_bytes crc32c crc_bytes crc_bits crc_bit
-of_an_empty_repair = refl
-
--- a new file with this number
-numbered : ℕ → NewFile
-unfolding new_file
-numbered number = record (new_file (Some (record { least = 1; greatest = 1 }))) { number = number }
-
-of_three_families : repair_manifest (record { log_number = 11; next_file = 12; last_sequence = 7; families = default_family (numbered 4 ∷ numbered 8 ∷ []) ∷ record { id = 2; name = codes "f"; files = numbered 5 ∷ [] } ∷ record { id = 3; name = codes "g"; files = [] } ∷ [] })
-    ≡ (0xBD ∷ 0x42 ∷ 0x62 ∷ 0x1B ∷ 0x5D ∷ 0 ∷ 1 ∷ 1 ∷ 0x1A ∷ []) ++ codes "leveldb.BytewiseComparator" ++ (2 ∷
-    0x0B ∷ 3 ∷ 0x0C ∷ 4 ∷ 7 ∷ 0xCB ∷ 1 ∷ 3 ∷ 0x67 ∷ 0 ∷ 4 ∷ 0xE8 ∷ 7 ∷ 9 ∷ 0x61 ∷ 1 ∷ 1 ∷ 0 ∷ 0 ∷ 0 ∷ 0 ∷
-    0 ∷ 0 ∷ 9 ∷ 0x61 ∷ 1 ∷ 1 ∷ 0 ∷ 0 ∷ 0 ∷ 0 ∷ 0 ∷ 0 ∷ 1 ∷ 1 ∷ 1 ∷ 0x67 ∷ 0 ∷ 8 ∷ 0xE8 ∷ 7 ∷ 9 ∷ 0x61 ∷ 1 ∷
-    1 ∷ 0 ∷ 0 ∷ 0 ∷ 0 ∷ 0 ∷ 0 ∷ 9 ∷ 0x61 ∷ 1 ∷ 1 ∷ 0 ∷ 0 ∷ 0 ∷ 0 ∷ 0 ∷ 0 ∷ 1 ∷ 1 ∷ 1 ∷ 0x43 ∷ 0x72 ∷ 0x32 ∷
-    5 ∷ 0x25 ∷ 0 ∷ 1 ∷ 0xC8 ∷ 1 ∷ 2 ∷ 0xC9 ∷ 1 ∷ 1 ∷ 0x66 ∷ 1 ∷ 0x1A ∷ []) ++
-    codes "leveldb.BytewiseComparator" ++ (2 ∷ 0x0B ∷ 0xDE ∷ 0x87 ∷ 0x93 ∷ 0x0A ∷ 0x1F ∷ 0 ∷ 1 ∷ 0xC8 ∷ 1 ∷
-    2 ∷ 0x67 ∷ 0 ∷ 5 ∷ 0xE8 ∷ 7 ∷ 9 ∷ 0x61 ∷ 1 ∷ 1 ∷ 0 ∷ 0 ∷ 0 ∷ 0 ∷ 0 ∷ 0 ∷ 9 ∷ 0x61 ∷ 1 ∷ 1 ∷ 0 ∷ 0 ∷ 0 ∷
-    0 ∷ 0 ∷ 0 ∷ 1 ∷ 1 ∷ 1 ∷ 0x80 ∷ 0x20 ∷ 0x76 ∷ 0x32 ∷ 0x25 ∷ 0 ∷ 1 ∷ 0xC8 ∷ 1 ∷ 3 ∷ 0xC9 ∷ 1 ∷ 1 ∷ 0x67 ∷
-    1 ∷ 0x1A ∷ []) ++ codes "leveldb.BytewiseComparator" ++ 2 ∷ 0x0B ∷ []
-unfolding repair_manifest default_family numbered new_file put_a internal_key edit_bytes written_log written_record block_len record_pieces pieces record_fragments fragment_bytes crc32c crc_bytes crc_bits crc_bit
-of_three_families = refl
