@@ -24,12 +24,20 @@ state_in state_of (Err why) = Err why
 abbrev pub opened_state : Directory → Mode → Result State OpenErr
 opened_state d mode = state_in (λ opened. opened.state) (open_directory mode d)
 
+-- what it is opened to by best efforts
 abbrev pub best_state : Directory → Result State OpenErr
 best_state d = state_in (λ best. best.state) (best_directory d)
 
 -- the answer is a state, and it is the salvage of the directory
 abbrev pub GivesSalvage : Result State OpenErr → Directory → Type 0
 GivesSalvage answer d = (state : State) × (answer ≡ Ok state) × IsSalvage state d
+
+-- In all modes x is opened as d is, or in all to the salvage of d. So it is by best efforts.
+abbrev pub OpensAlike : Directory → Directory → Type 0
+OpensAlike x d = ((mode : Mode) → opened_state x mode ≡ opened_state d mode) ⊎ ((mode : Mode) → GivesSalvage (opened_state x mode) d)
+
+abbrev pub BestAlike : Directory → Directory → Type 0
+BestAlike x d = (best_directory x ≡ best_directory d) ⊎ GivesSalvage (best_state x) d
 
 -- a name of a file that descent says nothing of: `CURRENT`, and temporary files
 abbrev pub may_go : FileName → Bool
@@ -50,6 +58,10 @@ pub record HasMoved (x d : Directory) (name bytes : List ℕ) : Type 0 where
   pub free : get d (lost_name name tried) ≡ None
   pub is : get x (lost_name name tried) ≡ Some bytes
 
+-- A file of d is still there in x: under its name, or moved.
+abbrev pub IsStillThere : Directory → Directory → List ℕ → List ℕ → Type 0
+IsStillThere x d name bytes = (get x name ≡ Some bytes) ⊎ HasMoved x d name bytes
+
 -- A directory x descends from a directory d: no table and no log of x is refused, and it has the salvage of d,
 -- with a remainder that is part of that of d; it is opened in all modes as d is, or to the salvage of d in
 -- all; so it is by best efforts; and it has each file of d, under its name or below `lost/`.
@@ -58,9 +70,9 @@ pub record Descends (x d : Directory) : Type 0 where
   pub families : salvage_families x ≡ salvage_families d
   pub records : salvage_records x ≡ salvage_records d
   pub remainder_of : (r : Record) → Contains (remainder x) r → Contains (remainder d) r
-  pub opens : ((mode : Mode) → opened_state x mode ≡ opened_state d mode) ⊎ ((mode : Mode) → GivesSalvage (opened_state x mode) d)
-  pub best : (best_directory x ≡ best_directory d) ⊎ GivesSalvage (best_state x) d
-  pub files : (name bytes : List ℕ) → get d name ≡ Some bytes → may_go (name_of name) ≡ false → (get x name ≡ Some bytes) ⊎ HasMoved x d name bytes
+  pub opens : OpensAlike x d
+  pub best : BestAlike x d
+  pub files : (name bytes : List ℕ) → get d name ≡ Some bytes → may_go (name_of name) ≡ false → IsStillThere x d name bytes
 
 -- the name of a temporary file
 abbrev pub is_temporary : FileName → Bool

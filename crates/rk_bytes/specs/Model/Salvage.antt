@@ -74,7 +74,9 @@ part_of_head block_of head = record {
 
 -- the part of a table with this footer
 abbrev pub part_with : List ℕ → Footer → Option TablePart
-part_with table footer = elim (head_with (reader_of table footer) footer) [ Ok head ↦ Some (part_of_head (reader_of table footer) head) | Err why ↦ None ]
+part_with table footer =
+    let block_of = reader_of table footer in
+    elim (head_with block_of footer) [ Ok head ↦ Some (part_of_head block_of head) | Err why ↦ None ]
 
 -- The part of a table, which has none just where its footer, its metaindex, its properties, its range
 -- deletions or its index have a fault.
