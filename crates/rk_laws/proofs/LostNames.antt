@@ -101,10 +101,11 @@ is_free taken a e there = false≢true (sym e ∙ list_any-from_Contains nat_lis
 up_to : (P : ℕ → Type 0) (n : ℕ) → ((k : ℕ) → k < n → P k) → P n → (k : ℕ) → k < suc n → P k
 up_to P n below at k within = below_more P n below at k (omega arith)
 
--- the name of a try is taken, and those of all tries up to one are
+-- the name of a try is taken
 abbrev IsTaken : List ℕ → List (List ℕ) → ℕ → Type 0
 IsTaken name taken k = list_any (bytes_eq (lost_name name k)) taken ≡ true
 
+-- the names of all tries up to one are taken
 abbrev AreTaken : List ℕ → List (List ℕ) → ℕ → Type 0
 AreTaken name taken last = (k : ℕ) → k ≤ last → IsTaken name taken k
 

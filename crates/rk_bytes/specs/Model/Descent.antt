@@ -32,10 +32,11 @@ best_state d = state_in (λ best. best.state) (best_directory d)
 abbrev pub GivesSalvage : Result State OpenErr → Directory → Type 0
 GivesSalvage answer d = (state : State) × (answer ≡ Ok state) × IsSalvage state d
 
--- In all modes x is opened as d is, or in all to the salvage of d. So it is by best efforts.
+-- x is opened as d is in all modes, or to the salvage of d in all modes
 abbrev pub OpensAlike : Directory → Directory → Type 0
 OpensAlike x d = ((mode : Mode) → opened_state x mode ≡ opened_state d mode) ⊎ ((mode : Mode) → GivesSalvage (opened_state x mode) d)
 
+-- so it is by best efforts
 abbrev pub BestAlike : Directory → Directory → Type 0
 BestAlike x d = (best_directory x ≡ best_directory d) ⊎ GivesSalvage (best_state x) d
 

@@ -164,12 +164,13 @@ found_table file status = record {
   part = elim (is_damaged status) [ true ↦ table_part file.1 | false ↦ None ];
 }
 
--- The files of a directory as they are found, with the tables, and the logs with their items, in rising number.
+-- The files of a directory as they are found: all, the tables, and the logs with their items.
 pub record FoundFiles : Type 0 where
   pub files : Files
   pub tables : List TableFile
   pub logs : List (ℕ × List Item)
 
+-- the files as they are found, tables and logs in rising number
 abbrev pub found_files : Files → FoundFiles
 found_files files = record {
   files = files;
@@ -393,6 +394,7 @@ pub record Salvaged : Type 0 where
   pub records : RecordMap
   pub remainder : List Record
 
+-- what a salvage of files that are found is
 abbrev pub salvaged : FoundFiles → Salvaged
 salvaged found = record {
   greatest = greatest_number found.files;
@@ -427,17 +429,19 @@ salvage_of d = unless_refused salvaged (found_files (entries d))
 unfoldable pub refuses_file : Directory → Bool
 refuses_file d = is_some (refused_file (found_files (entries d)))
 
--- Of a directory of which no table and no log is refused: its known families, the records that are admitted, those
--- of the kept tables alone, and the remainder.
+-- Of a directory of which no table and no log is refused, whatever its numbers and lengths are: its known families.
 unfoldable pub salvage_families : Directory → List FamilyName
 salvage_families d = known_families (found_files (entries d))
 
+-- the records that are admitted
 unfoldable pub salvage_records : Directory → RecordMap
 salvage_records d = last_records (taken_records (found_files (entries d)))
 
+-- the records of the kept tables alone
 unfoldable pub tables_alone : Directory → RecordMap
 tables_alone d = last_records (kept_records (found_files (entries d)))
 
+-- the records that are admitted and that the kept tables alone don't hold with the same value
 unfoldable pub remainder : Directory → List Record
 remainder d = remainder_of (found_files (entries d))
 
@@ -484,10 +488,11 @@ report found = let salvage = salvaged found in record {
   records = length (last_in_order (taken_records found));
 }
 
--- the report of a repair of these files, and of the directory, or the refusal
+-- the report of a repair of these files, or the first refusal
 unfoldable pub report_of_files : Files → Result Report SurveyErr
 report_of_files files = unless_refused report (found_files files)
 
+-- what a repair of the directory reports, or the first refusal
 abbrev pub repair_report : Directory → Result Report SurveyErr
 repair_report d = report_of_files (entries d)
 
