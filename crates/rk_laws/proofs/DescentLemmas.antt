@@ -5,7 +5,6 @@ use Rattle.std.specs.FinMap.{get, values}
 use Rattle.std.proofs.lemmas.Bool.{false≢true}
 use Rattle.rk_bytes.specs.declared.model.name.FileName.TheVariants.{Lost}
 use Rattle.rk_bytes.specs.declared.model.open.OpenErr.{OpenErr}
-use Rattle.rk_bytes.specs.declared.model.wal.Mode.{Mode}
 use Rattle.std.specs.List.{AllByRecursion}
 use Rattle.rk_bytes.specs.Model.DiskImages.{Directory, Names, NameChange, DiskState, after_changes, IsImage, IsAtRest, is_synced, unsynced, resting}
 use Rattle.rk_laws.proofs.DiskLaw.{resting-IsAtRest, image_of_resting}
@@ -13,9 +12,8 @@ use Rattle.rk_bytes.specs.Model.TableStatus.{is_range_deletion}
 use Rattle.rk_bytes.specs.Model.FileNames.{name_of, lost_name}
 use Rattle.rk_bytes.specs.Model.KeyView.{State, tomb_of, is_covered}
 use Rattle.rk_bytes.specs.Model.Records.{RecordMap}
-use Rattle.rk_bytes.specs.Model.BestEfforts.{best_directory}
 use Rattle.rk_bytes.specs.Model.Salvage.{refuses_file, salvage_families, salvage_records, IsSalvage}
-use Rattle.rk_bytes.specs.Model.Descent.{state_in, opened_state, best_state, GivesSalvage, may_go, may_move, OpensAlike, BestAlike, HasMoved, IsStillThere, Descends, is_temporary, IsReady}
+use Rattle.rk_bytes.specs.Model.Descent.{state_in, GivesSalvage, may_go, may_move, OpensAlike, BestAlike, HasMoved, IsStillThere, Descends, is_temporary, IsReady}
 
 pub Descends-itself : (d : Directory) → refuses_file d ≡ false → Descends d d
 Descends-itself d readable = record {

@@ -22,5 +22,6 @@ mod Readers
 mod ReadingLemmas
 mod RecordMaps
 mod RestartLemmas
+mod SalvageFiles
 mod SalvageLemmas
 mod Varints

@@ -1,6 +1,6 @@
 -- Of the names below `lost/` that a file may be moved to, one is free.
 use Rattle.std.proofs.Common.{◌≡◌, ◌⊎◌, inl, inr, ℕ, zero, suc, ◌+◌, ◌^◌, ◌<◌, ◌≤◌, Bool, true, false, not, ◌||◌, List, [], ◌∷◌, ◌++◌, length, cond, refl, sym, ap, subst, ◌∙◌, arith, append_assoc, length-append}
-use Rattle.std.specs.Prelude.{Contains, Option, Some, None, unwrap_or, bytes_eq}
+use Rattle.std.specs.Prelude.{Contains, Some, None, unwrap_or, bytes_eq}
 use Rattle.std.specs.List.{AllByRecursion, IsDistinct, list_any, find}
 use Rattle.std.proofs.lemmas.Map.Keys.{IsDistinct-cons}
 use Rattle.std.specs.Fmt.{decimal}
@@ -84,7 +84,7 @@ found_try name q tried (suc more) e = by (bytes_eq q (lost_name name tried)) (by
 some_free : (name : List ℕ) (taken : List (List ℕ)) → length taken < 2 ^ 64 → ¬ ((k : ℕ) → k ≤ length taken → list_any (bytes_eq (lost_name name k)) taken ≡ true)
 some_free name taken fit all =
     let within : (q : List ℕ) → list_any (bytes_eq q) (lost_names name 0 (length taken)) ≡ true → list_any (bytes_eq q) taken ≡ true =
-        (λ q e. let at = found_try name q 0 (length taken) e in ap (λ q. list_any (bytes_eq q) taken) at.2 ∙ all at.0 (omega (arith, at.1))) in
+    (λ q e. let at = found_try name q 0 (length taken) e in ap (λ q. list_any (bytes_eq q) taken) at.2 ∙ all at.0 (omega (arith, at.1))) in
     let names = lost_names name 0 (length taken) in
     let few : length names ≤ length taken = length-le_from_is_member nat_list_eq_equiv names taken (distinct_names name 0 (length taken) (omega arith)) within in
     absurd (omega (arith, few, count_names name 0 (length taken)))
@@ -147,8 +147,8 @@ first_free name taken d tried (suc more) before =
     by : (t : Bool) → list_any (bytes_eq (lost_name name tried)) taken ≡ t
         → (((k : ℕ) → k < suc tried → IsTaken name taken k) → Settled name taken (first_free_of taken (lost_names name (suc tried) more) d) (suc tried + more))
         → Settled name taken
-            (unwrap_or (cond (not t) (Some (lost_name name tried)) (find (λ lost. not (list_any (bytes_eq lost) taken)) (lost_names name (suc tried) more))) d)
-            (tried + suc more)
+        (unwrap_or (cond (not t) (Some (lost_name name tried)) (find (λ lost. not (list_any (bytes_eq lost) taken)) (lost_names name (suc tried) more))) d)
+        (tried + suc more)
     by true is go_on = later (go_on (up_to (IsTaken name taken) tried before is))
     by false is go_on = inl (free_at name taken tried before is)
 

@@ -34,4 +34,6 @@ pub use manifest::one_list_of_units;
 pub use names::one_name;
 pub use numbers::{one_varint, shortest_varint, varint_round_trip, zigzag_round_trip};
 pub use records::{last_of_appended, slot_order};
-pub use salvage::{nothing_to_add, one_free_lost_name, records_in_order};
+pub use salvage::{
+    nothing_to_add, one_free_lost_name, records_in_order, salvage_of_tables_and_logs,
+};
