@@ -1,18 +1,21 @@
 -- Worked examples of commands, computed from the bytes of a directory's files (this project's own). The bytes
 -- were made outside.
-use Rattle.std.specs.Prelude.{◌≡◌, ℕ, ◌==◌, Bool, true, false, List, [], ◌∷◌, ◌++◌, map, Option, Some, codes, T}
+use Rattle.std.specs.Prelude.{◌≡◌, ℕ, ◌==◌, Bool, true, false, List, [], ◌∷◌, ◌++◌, length, map, take, replicate, Option, Some, None, codes, T, refl}
 use Rattle.std.specs.Fmt.{digits}
 use Rattle.std.specs.List.{slice_split}
 use Rattle.std.specs.Ordering.{nat_cmp}
 use Rattle.std.specs.Cmp.Lexicographic.{slice_cmp}
 use Rattle.std.specs.FinMap.{find, is_sorted, from_sorted, get-from_sorted}
 use Rattle.hex.specs.Hex.{decode_pairs, encode_with}
+use Rattle.rk_bytes.specs.declared.model.status.Status.{Status}
+use Rattle.rk_bytes.specs.declared.model.status.Status.TheVariants.{Done, Refused, Usage, NotFound}
 use Rattle.rk_bytes.specs.Model.Numbers.{in_turn}
 use Rattle.rk_bytes.specs.Model.Checksums.{crc_bit, crc_bits, crc_bytes, crc32c, pieces}
+use Rattle.rk_bytes.specs.Model.DiskImages.{Directory}
 use Rattle.rk_bytes.specs.Model.FileNames.{log_name}
 use Rattle.rk_bytes.specs.Model.LogMarks.{log_marks, blocks_marks, block_len, marks_from, fragment_found, found}
 use Rattle.rk_bytes.specs.Model.WriteBatch.{batch_of}
-use Rattle.rk_bytes.specs.Model.Grammar.{dump_wal, command_of, scan_of, get_of, dump_wal_of, check_of, sst_of, drill_of}
+use Rattle.rk_bytes.specs.Model.Grammar.{Command, dump_wal, command_of, scan_of, get_of, dump_wal_of, check_of, sst_of, drill_of}
 use Rattle.rk_bytes.specs.Model.Lines.{line, quoted, batch_lines, edit_lines}
 use Rattle.rk_bytes.specs.Model.Output.{Output, written, dump_wal_output, command_output, output}
 
