@@ -10,7 +10,7 @@ use Rattle.rk_bytes.specs.declared.model.command.SstPart.{SstPart}
 use Rattle.rk_bytes.specs.declared.model.command.SstPart.TheVariants as sst_part
 use Rattle.rk_bytes.specs.declared.model.manifest.Version.{Version}
 use Rattle.rk_bytes.specs.declared.model.open.OpenErr.{OpenErr}
-use Rattle.rk_bytes.specs.declared.model.open.OpenErr.TheVariants.{NoManifest, NoUsableManifest}
+use Rattle.rk_bytes.specs.declared.model.open.OpenErr.TheVariants.{NoManifest}
 use Rattle.rk_bytes.specs.declared.model.salvage.SurveyErr.{SurveyErr}
 use Rattle.rk_bytes.specs.declared.model.salvage.Report.{Report}
 use Rattle.rk_bytes.specs.Model.Numbers.{◌>>=◌}
@@ -21,15 +21,12 @@ use Rattle.rk_bytes.specs.Model.LogMarks.{blocks_marks, block_len, log_marks}
 use Rattle.rk_bytes.specs.Model.LogItems.{Item, rec, log_items}
 use Rattle.rk_bytes.specs.Model.TableStatus.{Good, table_status}
 use Rattle.rk_bytes.specs.Model.KeyView.{State, Answer, absent, answer, rows, family_named, record_count, key_count}
-use Rattle.rk_bytes.specs.Model.Opening.{Files, Best, named_manifest, version_in, open_directory}
+use Rattle.rk_bytes.specs.Model.Opening.{Files, named_manifest, version_in, open_directory}
+use Rattle.rk_bytes.specs.Model.BestEfforts.{best_directory}
 use Rattle.rk_bytes.specs.Model.Salvage.{salvage_families, salvage_records, uncut_tombs, repair_report}
 use Rattle.rk_bytes.specs.Model.Drill.{drill_directory}
 use Rattle.rk_bytes.specs.Model.Grammar.{KeyWord, key_bytes, Command, scan, get, families, manifest_dump, dump_wal, check, repair, sst, drill, all_modes, command_of}
-use Rattle.rk_bytes.specs.Model.Lines.{line, item_line, batch_lines, edit_lines, family_line, row_line, answer_line, manifest_line, point_line, ok_line, count_words, mode_line, best_line, drill_line, moved_line, repaired_line, good_line, entry_line, range_line, property_line, table_fault_words, open_err_words, survey_err_words, no_log_words, no_table_words, no_family_words, refused_words, refusal_line, usage_line}
-
--- Not written yet: what best efforts open.
-abbrev best_directory : Directory → Result Best OpenErr
-best_directory d = Err NoUsableManifest
+use Rattle.rk_bytes.specs.Model.Lines.{line, item_line, batch_lines, edit_lines, family_line, row_line, answer_line, manifest_line, point_line, ok_line, count_words, mode_line, best_efforts_line, drill_line, moved_line, repaired_line, good_line, entry_line, range_line, property_line, table_fault_words, open_err_words, survey_err_words, no_log_words, no_table_words, no_family_words, refused_words, refusal_line, usage_line}
 
 -- lines, each with its newline, and the status
 pub record Output : Type 0 where
@@ -174,7 +171,7 @@ repair_line (Err why) = refusal_line (survey_err_words why)
 -- `drill`: what a directory is opened to in each mode and by best efforts, then after a repair in each mode
 abbrev pub drill_output : ℕ → Directory → Output
 drill_output n d = written (drill_line n ∷ map (λ mode. mode_line mode (opened_counts (state_of (how.Normal mode) d))) all_modes
-    ++ best_line (opened_counts (state_of how.Best d)) ∷ repair_line (repair_report d) ∷ map (λ mode. mode_line mode (state_counts (salvage_state d))) all_modes)
+    ++ best_efforts_line (opened_counts (state_of how.Best d)) ∷ repair_line (repair_report d) ∷ map (λ mode. mode_line mode (state_counts (salvage_state d))) all_modes)
 
 -- what a command writes over a directory, or the usage line where there is no command
 unfoldable pub command_output : Option Command → Directory → Output
