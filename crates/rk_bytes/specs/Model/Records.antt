@@ -41,9 +41,13 @@ slot_cmp a b =
 abbrev pub RecordMap : Type 0
 RecordMap = FinMap slot_cmp Record
 
+-- a record under its slot
+abbrev pub entry_of : Record → Slot × Record
+entry_of r = (slot_of r, r)
+
 -- the records under their slots, the last first
 abbrev pub slotted : List Record → List (Slot × Record)
-slotted records = map (λ r. (slot_of r, r)) (reverse records)
+slotted records = map entry_of (reverse records)
 
 -- the record map that holds, for each slot in the list, the last record there
 unfoldable pub last_records : List Record → RecordMap
@@ -61,7 +65,8 @@ slot_cmp-total =
     then_total (on_total (λ (p : Slot). p.family) nat_cmp_total) (then_total (on_total (λ (p : Slot). p.user) nat_list_cmp_total)
     (then_total (on_total (λ (p : Slot). p.packed) (back_total nat_cmp_total)) (on_total (λ (p : Slot). p.end) nat_list_cmp_total)))
 
-find-append : (q : Slot) (xs ys : List (Slot × Record)) → find slot_cmp q (xs ++ ys) ≡ option_or (find slot_cmp q xs) (find slot_cmp q ys)
+-- a look-up in two lists, one after the other
+pub find-append : (q : Slot) (xs ys : List (Slot × Record)) → find slot_cmp q (xs ++ ys) ≡ option_or (find slot_cmp q xs) (find slot_cmp q ys)
 find-append q [] ys = refl
 find-append q (x ∷ xs) ys = by (eq_by_cmp slot_cmp q x.0) (find-append q xs ys)
   where
