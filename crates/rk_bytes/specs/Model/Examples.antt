@@ -1,6 +1,9 @@
+pub mod DataBlocks
 pub mod Drill
 pub mod Opening
 pub mod Output
+pub mod Properties
 pub mod Repair
 pub mod Salvage
+pub mod Tables
 pub mod Writers
