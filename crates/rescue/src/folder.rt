@@ -136,7 +136,7 @@ impl<'r, R: Files> FolderDisk<'r, R> {
 }
 
 impl<'r, R: Files> Disk for FolderDisk<'r, R> {
-    ghost contents = { λ _. None };
+    ghost told = { λ _. None };
 
     ghost faults = { λ disk. disk.failures };
 

@@ -46,6 +46,10 @@ impl<'r, R: Print> Sink for StdoutSink<'r, R> {
             }
         }
     }
+
+    fn flush(&mut self) -> Result<(), SinkErr> {
+        Ok(())
+    }
 }
 
 // The writer of a runtime keeps nothing back, so that after an Ok the system has all the bytes.

@@ -1,2 +1,5 @@
 -- Lemmas that the proofs of callers cite.
 pub mod CommandLemmas
+pub mod DiskLemmas
+mod VarintLemmas
+mod VarintWriting

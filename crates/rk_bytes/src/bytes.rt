@@ -67,4 +67,21 @@ impl Bytes {
         self.items.extend_from_slice(bytes)?;
         Ok(())
     }
+
+    /// Puts the bytes of both at the end, one after the other. Where memory runs out, it changes
+    /// nothing.
+    pub fn append_both(&mut self, first: &[u8], second: &[u8]) -> Result<(), Memory>
+        ensures ok { OnOk result (self.new ≡ self.old ++ (first.now ++ second.now)) }
+        ensures err { OnErr result (self.new ≡ self.old) }
+    {
+        let len = self.items.len();
+        self.items.extend_from_slice(first)?;
+        match self.items.extend_from_slice(second) {
+            Ok(()) => Ok(()),
+            Err(error) => {
+                self.items.truncate(len);
+                Err(Memory::from(error))
+            }
+        }
+    }
 }

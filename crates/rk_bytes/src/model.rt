@@ -29,7 +29,7 @@ pub use manifest::{
 pub use name::{CurrentFault, FileName};
 pub use number::NumFault;
 pub use open::OpenErr;
-pub use salvage::{FamilyName, SurveyErr};
+pub use salvage::{FamilyName, Kept, Moved, Report, SurveyErr};
 pub use status::Status;
 pub use table::{Footer, FooterFault, SumKind, TableRef, TableWhat, TableWhy, TrailerFault};
 pub use view::{Cut, FamilyLine, Point, Tomb};

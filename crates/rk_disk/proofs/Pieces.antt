@@ -3,16 +3,16 @@ use Rattle.std.proofs.Common.{◌≡◌, ℕ, List, [], ◌++◌, length, take, 
 use Rattle.std.proofs.lemmas.List.{take_at, take_min, length-take}
 use Rattle.std.proofs.Math.Seq.{take-add}
 use Rattle.std.specs.FinMap as map
-use Rattle.rk_bytes.specs.Model.DiskImages.{Directory, part_at}
+use Rattle.rk_bytes.specs.Model.DiskImages.{Directory, part_of_file}
 
 -- the bytes that a part has, taken from where it begins
 take-length-take : (n : ℕ) (xs : List ℕ) → take (length (take n xs)) xs ≡ take n xs
 take-length-take n xs = ap (λ k. take k xs) (length-take n xs) ∙ take_min n xs
 
 -- a front of a file, and the part that a read gave behind it, are a front
-front_and_part : (bytes front : List ℕ) (n : ℕ) → front ≡ take (length front) bytes → front ++ part_at (length front) n bytes ≡ take (length (front ++ part_at (length front) n bytes)) bytes
+front_and_part : (bytes front : List ℕ) (n : ℕ) → front ≡ take (length front) bytes → front ++ part_of_file (length front) n bytes ≡ take (length (front ++ part_of_file (length front) n bytes)) bytes
 front_and_part bytes front n is =
-    let part = part_at (length front) n bytes in
+    let part = part_of_file (length front) n bytes in
     sym (ap (λ k. take k bytes) (length-append front part)
     ∙ take-add (length front) (length part) bytes
     ∙ ap (λ xs. take (length front) bytes ++ xs) (take-length-take n (drop (length front) bytes))
@@ -29,14 +29,14 @@ module _ (name front buf old rest all : List ℕ) (at got : ℕ) where
 
   abbrev IsRead : Directory → Type 0
   IsRead files =
-      let part = part_at at (length old) (unwrap_or (map.get files name) []) in
+      let part = part_of_file at (length old) (unwrap_or (map.get files name) []) in
       (got ≡ length part) × (buf ≡ part ++ drop got old)
 
   grows : (files : Directory) → at ≡ length front → IsFront front files → IsRead files → all ≡ front ++ take got (buf ++ rest) → IsFront all files
   grows files end is read more =
       let bytes = unwrap_or (map.get files name) [] in
-      let part = part_at (length front) (length old) bytes in
-      let read_part : take got (buf ++ rest) ≡ part = part_of_buffer _ (drop got old) rest buf got read.0 read.1 ∙ ap (λ k. part_at k (length old) bytes) end in
+      let part = part_of_file (length front) (length old) bytes in
+      let read_part : take got (buf ++ rest) ≡ part = part_of_buffer _ (drop got old) rest buf got read.0 read.1 ∙ ap (λ k. part_of_file k (length old) bytes) end in
       let whole : all ≡ front ++ part = more ∙ ap (λ xs. front ++ xs) read_part in
       whole ∙ front_and_part bytes front (length old) is ∙ ap (λ xs. take (length xs) bytes) (sym whole)
 

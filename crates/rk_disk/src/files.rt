@@ -1,7 +1,7 @@
 ghost use Rattle.std.specs.Prelude.{◌≡◌, ◌^◌, ◌<◌, ◌++◌, [], length, drop, IfOk, IfSome, OnOk, OnErr, unwrap_or};
 ghost use Rattle.std.specs.Option.{option_copied, option_map};
 ghost use Rattle.std.specs.FinMap as map;
-ghost use Rattle.rk_bytes.specs.Model.DiskImages.{part_at};
+ghost use Rattle.rk_bytes.specs.Model.DiskImages.{part_of_file};
 
 use rk_bytes::{Memory, Seq, Text};
 use std::alloc::Global;
@@ -72,8 +72,8 @@ impl Files {
     /// Fills the front of the buffer with the file's bytes from `at` on, as far as both go, and
     /// says how many these are.
     pub(crate) fn read(&self, name: &str, at: u64, buf: &mut [u8]) -> usize
-        ensures count { result ≡ length (part_at at (length buf.old) (unwrap_or (map.get self.now name.now) [])) }
-        ensures part { buf.new ≡ part_at at (length buf.old) (unwrap_or (map.get self.now name.now) []) ++ drop result buf.old }
+        ensures count { result ≡ length (part_of_file at (length buf.old) (unwrap_or (map.get self.now name.now) [])) }
+        ensures part { buf.new ≡ part_of_file at (length buf.old) (unwrap_or (map.get self.now name.now) []) ++ drop result buf.old }
     {
         match self.get(name) {
             Some(bytes) => copy_part(bytes, at, buf),
@@ -94,8 +94,8 @@ impl Files {
 }
 
 fn copy_part(bytes: &[u8], at: u64, buf: &mut [u8]) -> usize
-    ensures count { result ≡ length (part_at at (length buf.old) bytes.now) }
-    ensures part { buf.new ≡ part_at at (length buf.old) bytes.now ++ drop result buf.old }
+    ensures count { result ≡ length (part_of_file at (length buf.old) bytes.now) }
+    ensures part { buf.new ≡ part_of_file at (length buf.old) bytes.now ++ drop result buf.old }
 {
     if at >= bytes.len() as u64 {
         return 0;

@@ -1,7 +1,7 @@
 ghost use Rattle.std.specs.Prelude.{◌≡◌, ◌↔◌, ◌^◌, ◌<◌, ◌≤◌, ◌++◌, [], length, drop, Some, IfOk, IfSome, OnOk, OnErr, IsErrOf, IsTrue, unwrap_or, option_map};
 ghost use Rattle.std.specs.Option.{option_copied};
 ghost use Rattle.std.specs.FinMap as map;
-ghost use Rattle.rk_bytes.specs.Model.DiskImages.{part_at, Counts};
+ghost use Rattle.rk_bytes.specs.Model.DiskImages.{told_at_rest, part_of_file, Counts};
 ghost use Rattle.rk_disk.specs.Faults.{disk_failed};
 ghost use Rattle.rk_disk.specs.CallPlan.{fails_next, with_failing, faults_of};
 ghost use Rattle.rk_disk.specs.InMemory.{new_disk, after_reading};
@@ -77,7 +77,7 @@ impl MemDisk {
 }
 
 impl Disk for MemDisk {
-    ghost contents = { λ d. Some d.files };
+    ghost told = { λ d. Some (told_at_rest d.files) };
 
     ghost faults = { λ d. faults_of d.plan };
 
@@ -114,7 +114,7 @@ impl Disk for MemDisk {
     fn read(&mut self, name: &str, at: u64, buf: &mut [u8]) -> Result<usize, DiskErr>
         ensures within { IfOk result (λ n. n ≤ length buf.old) }
         ensures part { IfOk result (λ n.
-            let part = part_at at (length buf.old) (unwrap_or (map.get self.old.files name.now) []) in
+            let part = part_of_file at (length buf.old) (unwrap_or (map.get self.old.files name.now) []) in
             (n ≡ length part) × (buf.new ≡ part ++ drop n buf.old)) }
         ensures failed { OnErr result (buf.new ≡ buf.old) }
         ensures exactly { IsErrOf result DiskErr.Failed ↔ IsTrue (fails_next self.old.plan) }

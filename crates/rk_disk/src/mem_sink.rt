@@ -1,4 +1,4 @@
-ghost use Rattle.std.specs.Prelude.{◌≡◌, ◌↔◌, ◌++◌, OnOk, OnErr, IsErrOf, IsTrue, Some};
+ghost use Rattle.std.specs.Prelude.{◌≡◌, ◌↔◌, ◌++◌, OnOk, OnErr, IsOk, IsErrOf, IsTrue, Some};
 ghost use Rattle.rk_bytes.specs.Model.DiskImages.{Counts};
 ghost use Rattle.rk_disk.specs.Faults.{sink_failed};
 ghost use Rattle.rk_disk.specs.CallPlan.{fails_next, after_call, with_failing, faults_of};
@@ -74,6 +74,14 @@ impl Sink for MemSink {
             return Err(SinkErr::Failed);
         }
         self.taken.append(bytes)?;
+        Ok(())
+    }
+
+    /// Nothing is held back, so this never fails, and is no write.
+    fn flush(&mut self) -> Result<(), SinkErr>
+        ensures ok { IsOk result }
+        ensures same { self.new ≡ self.old }
+    {
         Ok(())
     }
 }

@@ -1,6 +1,6 @@
 ghost use Rattle.std.specs.Prelude.{◌≡◌, [], length, take, IfOk, IfSome, unwrap_or};
 ghost use Rattle.std.specs.FinMap as map;
-ghost use Rattle.rk_bytes.specs.Model.DiskImages.{Counts};
+ghost use Rattle.rk_bytes.specs.Model.DiskImages.{IsLeft, contents_told, Counts};
 ghost use Rattle.rk_disk.specs.Faults.{disk_failed};
 
 use crate::{Disk, DiskErr};
@@ -15,8 +15,8 @@ const READ_LEN: usize = 32_768;
 /// It asks for the size, takes memory for that many bytes once, and reads pieces of at most 32,768
 /// bytes up to the size, or to the first read that gives none. `Failed` comes where the disk fails.
 pub fn read_file<D: Disk>(alloc: Global, disk: &mut D, name: &str) -> Result<Option<Bytes>, DiskErr>
-    ensures file { IfOk result (λ file. IfSome (D.contents disk.old) (λ files. file ≡ map.get files name.now)) }
-    ensures contents { D.contents disk.new ≡ D.contents disk.old }
+    ensures file { IfOk result (λ file. IfSome (contents_told (D.told disk.old)) (λ files. file ≡ map.get files name.now)) }
+    ensures left { IsLeft (D.told disk.old) (D.told disk.new) }
     ensures faults { Counts (disk_failed result) (D.faults disk.old) (D.faults disk.new) }
 {
     let Some(size) = disk.size(name)? else {
@@ -33,8 +33,8 @@ fn read_front<D: Disk>(
     name: &str,
     size: u64,
 ) -> Result<Vec<u8>, DiskErr>
-    ensures bytes { IfOk result (λ bytes. IfSome (D.contents disk.old) (λ files. bytes.items ≡ take size (unwrap_or (map.get files name.now) []))) }
-    ensures contents { D.contents disk.new ≡ D.contents disk.old }
+    ensures bytes { IfOk result (λ bytes. IfSome (contents_told (D.told disk.old)) (λ files. bytes.items ≡ take size (unwrap_or (map.get files name.now) []))) }
+    ensures left { IsLeft (D.told disk.old) (D.told disk.new) }
     ensures faults { Counts (disk_failed result) (D.faults disk.old) (D.faults disk.new) }
 {
     let len = size as usize;

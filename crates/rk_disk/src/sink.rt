@@ -3,8 +3,6 @@ ghost use Rattle.rk_bytes.specs.Model.DiskImages.{Counts};
 ghost use Rattle.rk_disk.specs.Faults.{sink_failed};
 
 use rk_bytes::Memory;
-use std::error::Error;
-use std::fmt;
 
 /// Why an output didn't take all bytes.
 #[derive(Clone, Copy, Debug, PartialEq, Eq)]
@@ -14,17 +12,6 @@ pub enum SinkErr {
     /// Memory ran out. It took none of the bytes.
     Memory,
 }
-
-impl fmt::Display for SinkErr {
-    fn fmt<W: fmt::Write>(&self, f: &mut fmt::Formatter<W>) -> fmt::Result {
-        match self {
-            SinkErr::Failed => write!(f, "the output failed"),
-            SinkErr::Memory => write!(f, "out of memory"),
-        }
-    }
-}
-
-impl Error for SinkErr {}
 
 impl From<Memory> for SinkErr {
     ghost use Rattle.rk_disk.specs.declared.sink.SinkErr.TheVariants as errors;
@@ -36,14 +23,15 @@ impl From<Memory> for SinkErr {
     }
 }
 
-/// An output, which takes bytes one piece after another.
+/// An output, which takes bytes one piece after another. It may hold back some of what it took, until
+/// it is flushed.
 ///
 /// An output may tell what it took. Whether it does never changes.
 pub trait Sink {
     /// The bytes taken so far, where the output tells them.
     ghost taken: { Self → Option (List ℕ) };
 
-    /// How many writes have failed. It stands still at the last value of a `u64`.
+    /// How many calls have failed. It stands still at the last value of a `u64`.
     ghost faults: { Self → ℕ };
 
     /// Takes all the bytes, or says why not.
@@ -51,5 +39,11 @@ pub trait Sink {
         ensures ok { OnOk result (taken self.new ≡ option_map (λ front. front ++ bytes.now) (taken self.old)) }
         ensures failed { IsErrOf result SinkErr.Failed → (n : ℕ) × (taken self.new ≡ option_map (λ front. front ++ take n bytes.now) (taken self.old)) }
         ensures memory { IsErrOf result SinkErr.Memory → taken self.new ≡ taken self.old }
+        ensures faults { Counts (sink_failed result) (faults self.old) (faults self.new) };
+
+    /// Hands on what was taken and is still held back. Whatever it answers, no byte is taken and none
+    /// is given up.
+    fn flush(&mut self) -> Result<(), SinkErr>
+        ensures taken { taken self.new ≡ taken self.old }
         ensures faults { Counts (sink_failed result) (faults self.old) (faults self.new) };
 }

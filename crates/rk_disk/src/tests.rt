@@ -19,6 +19,10 @@ fn write_to<S: Sink>(sink: &mut S, bytes: &[u8]) -> Result<(), SinkErr> {
     sink.write(bytes)
 }
 
+fn flushed<S: Sink>(sink: &mut S) -> Result<(), SinkErr> {
+    sink.flush()
+}
+
 #[test]
 fn a_file_is_put_and_replaced(rt: HostRuntime) -> Result<(), Fail> {
     let mut disk = MemDisk::new(rt.alloc())?;
@@ -173,6 +177,8 @@ fn an_output_fails_where_it_is_set_to(rt: HostRuntime) -> Result<(), Fail> {
         (5, false, b"ababab"),
     ] {
         sink.fail_at(call - 1)?;
+        // A flush is no write, and never fails.
+        assert_eq!(rt; flushed(&mut sink), Ok(()));
         let wrote = write_to(&mut sink, b"ab");
         assert_eq!(rt;
             wrote,

@@ -1,13 +1,13 @@
 -- A batch is read just where its bytes are it.
-use Rattle.std.proofs.Common.{◌≡◌, ℕ, zero, suc, ◌+◌, ◌-◌, ◌≤◌, Bool, true, false, not, ◌||◌, cond, List, [], ◌∷◌, ◌++◌, length, take, drop, Result, Ok, refl, sym, ◌∙◌, ap, subst, arith}
+use Rattle.std.proofs.Common.{◌≡◌, ℕ, zero, suc, ◌+◌, ◌-◌, ◌≤◌, not, List, [], ◌∷◌, ◌++◌, length, take, drop, Result, Ok, refl, sym, ◌∙◌, ap, subst, arith}
 use Rattle.std.specs.Prelude.{◌==◌, nat_lt}
-use Rattle.std.proofs.lemmas.Bool.{eqb-true, eq-eqb, not-false, ltb-false, le-ltb}
-use Rattle.std.proofs.lemmas.List.{length-append, take-append-drop, length-take-le}
-use Rattle.std.proofs.Math.Seq.{take-append_seam, drop-append_seam, drop-drop}
+use Rattle.std.proofs.lemmas.Bool.{eqb-true, eq-eqb, not-false, ltb-false, le-ltb, or_parts, or_from, cond-false}
+use Rattle.std.proofs.lemmas.List.{length-append, take-append-drop, length-take-le, take_at, drop_at}
+use Rattle.std.proofs.Math.Seq.{drop-drop}
 use Rattle.rk_bytes.specs.declared.model.batch.BatchFault.{BatchFault}
 use Rattle.rk_bytes.specs.Model.Numbers.{AreBytes, little_endian, in_turn}
 use Rattle.rk_bytes.specs.Model.InternalKey.{top_sequence}
-use Rattle.rk_bytes.specs.Model.WriteBatch.{Part, change, log_bytes, noop, change_count, part_of_tag, part_at, batch_sequence, stated_count, parts_after_header, Batch, batch_of, SpellsPart, SpellsParts, IsBatch}
+use Rattle.rk_bytes.specs.Model.WriteBatch.{Part, change, log_bytes, noop, change_count, part_of_tag, batch_part_at, batch_sequence, stated_count, parts_after_header, passes_top, Batch, batch_of, SpellsPart, SpellsParts, IsBatch}
 use Rattle.rk_laws.proofs.ReadingLemmas.{both_steps, first_step, passed, bytes_after}
 use Rattle.rk_laws.proofs.BatchLemmas.{part_ok, part-spelled}
 
@@ -17,14 +17,14 @@ change_count-more (log_bytes at slice) parts = omega arith
 change_count-more (noop at) parts = omega arith
 
 -- the parts that are read are spelled
-parts_ok : (n len sequence place next : ℕ) (before : List Part) (bytes : List ℕ) (parts : List Part) → AreBytes bytes → length bytes ≤ n → len ≡ place + length bytes → next ≡ sequence + change_count before → in_turn (part_at len sequence) n before bytes ≡ Ok parts → SpellsParts place next bytes parts
+parts_ok : (n len sequence place next : ℕ) (before : List Part) (bytes : List ℕ) (parts : List Part) → AreBytes bytes → length bytes ≤ n → len ≡ place + length bytes → next ≡ sequence + change_count before → in_turn (batch_part_at len sequence) n before bytes ≡ Ok parts → SpellsParts place next bytes parts
 unfolding in_turn
 parts_ok zero len sequence place next before [] parts are few is counted e = let none : [] ≡ parts = cc in subst (λ parts. SpellsParts place next [] parts) none refl
 parts_ok zero len sequence place next before (tag ∷ bytes) parts are few is counted e = absurd (omega arith)
 parts_ok (suc n) len sequence place next before [] parts are few is counted e = let none : [] ≡ parts = cc in subst (λ parts. SpellsParts place next [] parts) none refl
 parts_ok (suc n) len sequence place next before (tag ∷ bytes) parts are few is counted e =
-    both_steps (part_at len sequence before (tag ∷ bytes)) _ parts e λ r read e1.
-    both_steps (in_turn (part_at len sequence) n (r.0 ∷ before) r.1) _ parts e1 λ more more_read e2.
+    both_steps (batch_part_at len sequence before (tag ∷ bytes)) _ parts e λ r read e1.
+    both_steps (in_turn (batch_part_at len sequence) n (r.0 ∷ before) r.1) _ parts e1 λ more more_read e2.
     let p = part_ok (len - length (tag ∷ bytes)) (sequence + change_count before) tag bytes r are.1 read in
     let lens : length bytes ≡ length p.more + length r.1 = ap length p.whole ∙ length-append p.more r.1 in
     let place_is : len - length (tag ∷ bytes) ≡ place = omega arith in
@@ -40,11 +40,11 @@ parts_ok (suc n) len sequence place next before (tag ∷ bytes) parts are few is
     )
 
 -- the parts that are spelled are read
-parts-spelled : (n len sequence place next : ℕ) (before : List Part) (bytes : List ℕ) (parts : List Part) → length bytes ≤ n → len ≡ place + length bytes → next ≡ sequence + change_count before → SpellsParts place next bytes parts → in_turn (part_at len sequence) n before bytes ≡ Ok parts
+parts-spelled : (n len sequence place next : ℕ) (before : List Part) (bytes : List ℕ) (parts : List Part) → length bytes ≤ n → len ≡ place + length bytes → next ≡ sequence + change_count before → SpellsParts place next bytes parts → in_turn (batch_part_at len sequence) n before bytes ≡ Ok parts
 unfolding in_turn
 parts-spelled n len sequence place next before bytes [] few is counted none = rw none (nothing n)
   where
-    nothing : (n : ℕ) → in_turn (part_at len sequence) n before [] ≡ Ok []
+    nothing : (n : ℕ) → in_turn (batch_part_at len sequence) n before [] ≡ Ok []
     nothing zero = refl
     nothing (suc n) = refl
 parts-spelled zero len sequence place next before bytes (part ∷ parts) few is counted (spelled, rest, whole, s, more) =
@@ -56,12 +56,12 @@ parts-spelled (suc n) len sequence place next before bytes (part ∷ parts) few 
     let lens : length bytes ≡ length spelled + length rest = ap length whole ∙ length-append spelled rest in
     let some : length spelled ≡ suc (length p.more) = ap length p.whole in
     let place_is : len - length (p.tag ∷ (p.more ++ rest)) ≡ place = omega (arith, ap length split) in
-    let read : part_at len sequence before (p.tag ∷ (p.more ++ rest)) ≡ Ok (part, rest) =
+    let read : batch_part_at len sequence before (p.tag ∷ (p.more ++ rest)) ≡ Ok (part, rest) =
     ap (λ place. part_of_tag place (sequence + change_count before) p.tag (p.more ++ rest)) place_is
     ∙ ap (λ next. part_of_tag place next p.tag (p.more ++ rest)) (sym counted)
     ∙ p.read in
-    ap (in_turn (part_at len sequence) (suc n) before) split
-    ∙ first_step (part_at len sequence before (p.tag ∷ (p.more ++ rest))) _ _ read
+    ap (in_turn (batch_part_at len sequence) (suc n) before) split
+    ∙ first_step (batch_part_at len sequence before (p.tag ∷ (p.more ++ rest))) _ _ read
     ∙ first_step _ _ parts (parts-spelled n len sequence (place + length spelled) (next + change_count (part ∷ [])) (part ∷ before) rest parts (omega arith) (omega arith) (omega (arith, change_count-more part before)) more)
 
 -- a header's two parts, and what follows them
@@ -71,19 +71,13 @@ record Header (bytes sequence_bytes count_bytes part_bytes : List ℕ) : Type 0 
   parts_are : drop 12 bytes ≡ part_bytes
   long : length bytes ≡ 12 + length part_bytes
 
-taken_front : (n : ℕ) (front rest : List ℕ) → length front ≡ n → take n (front ++ rest) ≡ front
-taken_front n front rest len = subst (λ n. take n (front ++ rest) ≡ front) len (take-append_seam front rest)
-
-left_behind : (n : ℕ) (front rest : List ℕ) → length front ≡ n → drop n (front ++ rest) ≡ rest
-left_behind n front rest len = subst (λ n. drop n (front ++ rest) ≡ rest) len (drop-append_seam front rest)
-
 header_of : (bytes sequence_bytes count_bytes part_bytes : List ℕ) → bytes ≡ sequence_bytes ++ (count_bytes ++ part_bytes) → length sequence_bytes ≡ 8 → length count_bytes ≡ 4 → Header bytes sequence_bytes count_bytes part_bytes
 header_of bytes sequence_bytes count_bytes part_bytes whole eight four =
-    let after : drop 8 bytes ≡ count_bytes ++ part_bytes = ap (drop 8) whole ∙ left_behind 8 sequence_bytes (count_bytes ++ part_bytes) eight in
+    let after : drop 8 bytes ≡ count_bytes ++ part_bytes = ap (drop 8) whole ∙ drop_at sequence_bytes (count_bytes ++ part_bytes) 8 eight in
     record {
-      sequence_is = ap (take 8) whole ∙ taken_front 8 sequence_bytes (count_bytes ++ part_bytes) eight;
-      count_is = ap (take 4) after ∙ taken_front 4 count_bytes part_bytes four;
-      parts_are = sym (drop-drop 4 8 bytes) ∙ ap (drop 4) after ∙ left_behind 4 count_bytes part_bytes four;
+      sequence_is = ap (take 8) whole ∙ take_at sequence_bytes (count_bytes ++ part_bytes) 8 eight;
+      count_is = ap (take 4) after ∙ take_at count_bytes part_bytes 4 four;
+      parts_are = sym (drop-drop 4 8 bytes) ∙ ap (drop 4) after ∙ drop_at count_bytes part_bytes 4 four;
       long = omega (arith, ap length whole, length-append sequence_bytes (count_bytes ++ part_bytes), length-append count_bytes part_bytes);
     }
 
@@ -99,10 +93,6 @@ parts_after bytes parts are long e =
     let lens : length bytes ≡ 12 + length (drop 12 bytes) = omega (arith, ap length (take-append-drop 12 bytes), length-append (take 12 bytes) (drop 12 bytes)) in
     parts_ok (length bytes) (length bytes) (batch_sequence bytes) 12 (batch_sequence bytes) [] (drop 12 bytes) parts (bytes_after bytes (take 12 bytes) (drop 12 bytes) are (sym (take-append-drop 12 bytes))) (omega arith) lens (omega arith) e
 
-neither : (a b : Bool) → (a || b) ≡ false → (a ≡ false) × (b ≡ false)
-neither true b e = absurd cc
-neither false b e = (refl, e)
-
 pub batch_of_ok : (bytes : List ℕ) (batch : Batch) → AreBytes bytes → batch_of bytes ≡ Ok batch → IsBatch bytes batch
 unfolding batch_of
 batch_of_ok bytes batch are e =
@@ -110,8 +100,8 @@ batch_of_ok bytes batch are e =
     let long : 12 ≤ length bytes = ltb-false (length bytes) 12 long_enough.0 in
     both_steps (parts_after_header bytes) _ batch long_enough.1 λ parts read e1.
     let counted = passed (not (stated_count bytes == change_count parts)) _ _ batch e1 in
-    let below = passed (nat_lt top_sequence (batch_sequence bytes) || nat_lt (top_sequence + 1) (batch_sequence bytes + change_count parts)) _ _ batch counted.1 in
-    let tops = neither (nat_lt top_sequence (batch_sequence bytes)) (nat_lt (top_sequence + 1) (batch_sequence bytes + change_count parts)) below.0 in
+    let below = passed (passes_top (batch_sequence bytes) (change_count parts)) _ _ batch counted.1 in
+    let tops = or_parts (nat_lt top_sequence (batch_sequence bytes)) (nat_lt (top_sequence + 1) (batch_sequence bytes + change_count parts)) below.0 in
     let same : record { sequence = batch_sequence bytes; parts = parts } ≡ batch = cc in
     subst (λ batch. IsBatch bytes batch) same (record {
       sequence_bytes = take 8 bytes;
@@ -125,10 +115,6 @@ batch_of_ok bytes batch are e =
       last_below_top = ltb-false (top_sequence + 1) (batch_sequence bytes + change_count parts) tops.1;
     })
 
--- a test that isn't met refuses nothing
-refused_not : {A : Type 0} (test : Bool) (x y : A) → test ≡ false → cond test x y ≡ y
-refused_not test x y e = ap (λ test. cond test x y) e
-
 pub batch_of-batch : (bytes : List ℕ) (batch : Batch) → IsBatch bytes batch → batch_of bytes ≡ Ok batch
 unfolding batch_of
 batch_of-batch bytes batch b =
@@ -136,16 +122,15 @@ batch_of-batch bytes batch b =
     let sequence_is : batch_sequence bytes ≡ batch.sequence = ap little_endian h.sequence_is ∙ sym b.sequence.value in
     let counted : stated_count bytes ≡ change_count batch.parts = ap little_endian h.count_is ∙ sym b.count.value in
     let read : parts_after_header bytes ≡ Ok batch.parts =
-    ap (λ sequence. in_turn (part_at (length bytes) sequence) (length bytes) [] (drop 12 bytes)) sequence_is
-    ∙ ap (in_turn (part_at (length bytes) batch.sequence) (length bytes) []) h.parts_are
+    ap (λ sequence. in_turn (batch_part_at (length bytes) sequence) (length bytes) [] (drop 12 bytes)) sequence_is
+    ∙ ap (in_turn (batch_part_at (length bytes) batch.sequence) (length bytes) []) h.parts_are
     ∙ parts-spelled (length bytes) (length bytes) batch.sequence 12 batch.sequence [] b.part_bytes batch.parts (omega (arith, h.long)) h.long (omega arith) b.parts in
     let top : batch_sequence bytes ≤ top_sequence = omega (arith, b.below_top) in
     let last_top : batch_sequence bytes + change_count batch.parts ≤ top_sequence + 1 = omega (arith, b.last_below_top) in
     let long : 12 ≤ length bytes = omega (arith, h.long) in
-    refused_not (nat_lt (length bytes) 12) _ _ (le-ltb (length bytes) 12 long)
+    cond-false (nat_lt (length bytes) 12) _ _ (le-ltb (length bytes) 12 long)
     ∙ first_step (parts_after_header bytes) _ _ read
-    ∙ refused_not (not (stated_count bytes == change_count batch.parts)) _ _ (ap not (eq-eqb (stated_count bytes) (change_count batch.parts) counted))
-    ∙ refused_not (nat_lt top_sequence (batch_sequence bytes) || nat_lt (top_sequence + 1) (batch_sequence bytes + change_count batch.parts)) _ _
-    (ap (λ a. a || nat_lt (top_sequence + 1) (batch_sequence bytes + change_count batch.parts)) (le-ltb top_sequence (batch_sequence bytes) top)
-    ∙ le-ltb (top_sequence + 1) (batch_sequence bytes + change_count batch.parts) last_top)
+    ∙ cond-false (not (stated_count bytes == change_count batch.parts)) _ _ (ap not (eq-eqb (stated_count bytes) (change_count batch.parts) counted))
+    ∙ cond-false (passes_top (batch_sequence bytes) (change_count batch.parts)) _ _
+    (or_from _ _ (le-ltb top_sequence (batch_sequence bytes) top) (le-ltb (top_sequence + 1) (batch_sequence bytes + change_count batch.parts) last_top))
     ∙ ap (λ (n : ℕ). let r : Result Batch BatchFault = Ok (record { sequence = n; parts = batch.parts }) in r) sequence_is

@@ -1,7 +1,7 @@
 -- A part of a batch is read just where it is spelled.
 use Rattle.std.proofs.Common.{◌≡◌, ◌⊎◌, ℕ, Bool, true, false, ◌||◌, cond, List, [], ◌∷◌, ◌++◌, Option, Some, None, Result, Ok, Err, refl, sym, ◌∙◌, ap, subst, append_assoc, inl, inr}
-use Rattle.std.specs.Prelude.{◌==◌, find}
-use Rattle.std.proofs.lemmas.Bool.{eqb-true}
+use Rattle.std.specs.Prelude.{◌==◌}
+use Rattle.std.proofs.lemmas.Bool.{eqb-true, or_cases}
 use Rattle.rk_bytes.specs.declared.model.key.Kind.{Kind}
 use Rattle.rk_bytes.specs.declared.model.key.Kind.TheVariants.{Deletion, Value, Merge, SingleDeletion, RangeDeletion}
 use Rattle.rk_bytes.specs.declared.model.key.Record.{Record}
@@ -9,22 +9,9 @@ use Rattle.rk_bytes.specs.declared.model.batch.BatchFault.{BatchFault}
 use Rattle.rk_bytes.specs.declared.model.batch.BatchFault.TheVariants.{BadRecord}
 use Rattle.rk_bytes.specs.Model.Numbers.{AreBytes, Read, IsPrefixed, varint32_at, prefixed_at, reads_or}
 use Rattle.rk_bytes.specs.Model.InternalKey.{all_kinds}
-use Rattle.rk_bytes.specs.Model.WriteBatch.{Part, change, log_bytes, noop, plain_tag, family_tag, kind_of_tag, names_family, is_unsupported_tag, family_at, value_at, change_at, log_bytes_at, part_of_tag, SpellsFamily, SpellsValue, SpellsChange, SpellsPart}
+use Rattle.rk_bytes.specs.Model.WriteBatch.{Part, change, log_bytes, noop, plain_tag, family_tag, kind_of_tag, names_family, is_unsupported_batch_tag, family_at, value_at, change_at, log_bytes_at, part_of_tag, SpellsFamily, SpellsChangeValue, SpellsChange, SpellsPart}
 use Rattle.rk_laws.proofs.Readers.{reads_or_ok}
-use Rattle.rk_laws.proofs.ReadingLemmas.{both_steps, first_step, passed, varint32_ok, varint32-append, prefixed_ok, prefixed-append}
-
-either_true : (a b : Bool) → (a || b) ≡ true → (a ≡ true) ⊎ (b ≡ true)
-either_true true b e = inl refl
-either_true false b e = inr e
-
--- what is found passes the test
-found_passes : {A : Type 0} (test : A → Bool) (items : List A) (item : A) → find test items ≡ Some item → test item ≡ true
-found_passes test [] item e = absurd cc
-found_passes {A} test (first ∷ items) item e = by (test first) refl e (found_passes test items item)
-  where
-    by : (told : Bool) → test first ≡ told → cond told (Some first) (find test items) ≡ Some item → (find test items ≡ Some item → test item ≡ true) → test item ≡ true
-    by true told e later = let same : first ≡ item = cc in ap test (sym same) ∙ told
-    by false told e later = later e
+use Rattle.rk_laws.proofs.ReadingLemmas.{both_steps, first_step, passed, found_passes, varint32_ok, varint32-append, prefixed_ok, prefixed-append}
 
 no_family : (kind : Kind) → names_family (plain_tag kind) ≡ false
 no_family Deletion = refl
@@ -46,7 +33,7 @@ record TagOf (tag : ℕ) (kind : Kind) : Type 0 where
 
 tag_of : (tag : ℕ) (kind : Kind) → kind_of_tag tag ≡ Some kind → TagOf tag kind
 tag_of tag kind e =
-    elim (either_true (plain_tag kind == tag) (family_tag kind == tag) (found_passes (λ kind. plain_tag kind == tag || family_tag kind == tag) all_kinds kind e)) [
+    elim (or_cases (plain_tag kind == tag) (family_tag kind == tag) (found_passes (λ kind. plain_tag kind == tag || family_tag kind == tag) all_kinds kind e)) [
       | inl plain ↦ let same = sym (eqb-true (plain_tag kind) tag plain) in record { is = inl (same, ap names_family same ∙ no_family kind) }
       | inr named ↦ let same = sym (eqb-true (family_tag kind) tag named) in record { is = inr (same, ap names_family same ∙ a_family kind) }
     ]
@@ -64,9 +51,9 @@ family_ok tag kind bytes r are t e =
           (part, whole, inr (part, ap (λ t. t ∷ part) named.0, is), are1)
     ]
 
-value_ok : (kind : Kind) (bytes : List ℕ) (r : List ℕ × List ℕ) → AreBytes bytes → value_at kind bytes ≡ Ok r → (part : List ℕ) × (bytes ≡ part ++ r.1) × SpellsValue part kind r.0 × AreBytes r.1
-value_ok Deletion bytes r are e = let same : ([], bytes) ≡ r = cc in subst (λ (r : List ℕ × List ℕ). (part : List ℕ) × (bytes ≡ part ++ r.1) × SpellsValue part Deletion r.0 × AreBytes r.1) same ([], refl, (refl, refl), are)
-value_ok SingleDeletion bytes r are e = let same : ([], bytes) ≡ r = cc in subst (λ (r : List ℕ × List ℕ). (part : List ℕ) × (bytes ≡ part ++ r.1) × SpellsValue part SingleDeletion r.0 × AreBytes r.1) same ([], refl, (refl, refl), are)
+value_ok : (kind : Kind) (bytes : List ℕ) (r : List ℕ × List ℕ) → AreBytes bytes → value_at kind bytes ≡ Ok r → (part : List ℕ) × (bytes ≡ part ++ r.1) × SpellsChangeValue part kind r.0 × AreBytes r.1
+value_ok Deletion bytes r are e = let same : ([], bytes) ≡ r = cc in subst (λ (r : List ℕ × List ℕ). (part : List ℕ) × (bytes ≡ part ++ r.1) × SpellsChangeValue part Deletion r.0 × AreBytes r.1) same ([], refl, (refl, refl), are)
+value_ok SingleDeletion bytes r are e = let same : ([], bytes) ≡ r = cc in subst (λ (r : List ℕ × List ℕ). (part : List ℕ) × (bytes ≡ part ++ r.1) × SpellsChangeValue part SingleDeletion r.0 × AreBytes r.1) same ([], refl, (refl, refl), are)
 value_ok Value bytes r are e = prefixed_ok bytes r are e
 value_ok Merge bytes r are e = prefixed_ok bytes r are e
 value_ok RangeDeletion bytes r are e = prefixed_ok bytes r are e
@@ -137,7 +124,7 @@ pub part_ok : (place sequence tag : ℕ) (bytes : List ℕ) (r : Part × List �
 part_ok place sequence tag bytes r are e =
     chosen (tag == 0x3) _ _ r e (λ is read. log_bytes_ok place sequence tag bytes r are (eqb-true tag 0x3 is) (reads_or_ok (BadRecord place) _ r read)) λ other e1.
     chosen (tag == 0xD) _ _ r e1 (λ is read. noop_ok place sequence tag bytes r (eqb-true tag 0xD is) cc) λ other e2.
-    let supported = passed (is_unsupported_tag tag) _ _ r e2 in
+    let supported = passed (is_unsupported_batch_tag tag) _ _ r e2 in
     change_tag_ok place sequence tag bytes r are (kind_of_tag tag) refl supported.1
 
 plain_change : (place sequence : ℕ) (kind : Kind) (bytes : List ℕ) → part_of_tag place sequence (plain_tag kind) bytes ≡ reads_or (BadRecord place) (change_at place sequence (plain_tag kind) kind bytes)
@@ -180,7 +167,7 @@ tag_and_family place sequence bytes rest kind family (inr (id, whole, is)) =
       change_read = family_change place sequence kind;
     }
 
-value-append : (kind : Kind) (part rest value : List ℕ) → SpellsValue part kind value → value_at kind (part ++ rest) ≡ Ok (value, rest)
+value-append : (kind : Kind) (part rest value : List ℕ) → SpellsChangeValue part kind value → value_at kind (part ++ rest) ≡ Ok (value, rest)
 value-append Deletion part rest value s = rw (s.0, s.1)
 value-append SingleDeletion part rest value s = rw (s.0, s.1)
 value-append Value part rest value s = prefixed-append part rest value s

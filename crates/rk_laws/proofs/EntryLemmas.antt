@@ -1,113 +1,71 @@
 -- An entry is read just where it is spelled.
-use Rattle.std.proofs.Common.{◌≡◌, ℕ, ◌-◌, ◌≤◌, List, ◌++◌, length, take, Result, Ok, refl, sym, ◌∙◌, ap, subst, arith, append_assoc}
+use Rattle.std.proofs.Common.{◌≡◌, ℕ, ◌≤◌, List, ◌++◌, length, take, Ok, refl, sym, ◌∙◌, ap, subst, arith}
 use Rattle.std.proofs.lemmas.List.{length-append}
 use Rattle.std.proofs.Math.Seq.{take-append_seam}
-use Rattle.rk_bytes.specs.declared.model.number.NumFault.{NumFault}
+use Rattle.rk_bytes.specs.declared.model.block.BlockFault.TheVariants.{BadEntry}
 use Rattle.rk_bytes.specs.Model.Numbers.{AreBytes, part_of, IsVarint32, varint32_at}
-use Rattle.rk_bytes.specs.Model.BlockEntries.{Entry, with_fault, next_entry, SpellsEntry}
-use Rattle.rk_laws.proofs.ReadingLemmas.{both_steps, first_step, with_fault_ok, part_of_ok, part_of-append, part_of-within, varint_len, varint32_ok, varint32-append}
-use Rattle.rk_laws.proofs.BlockLemmas.{Spelled, Form, with_own}
+use Rattle.rk_bytes.specs.Model.BlockEntries.{Entry, with_fault, entry_at, next_entry, SpellsEntry}
+use Rattle.rk_laws.proofs.ReadingLemmas.{both_steps, first_step, part_of_ok, part_of-within, varint_len}
+use Rattle.rk_laws.proofs.Readers.{Front, Exact, read_then, spelled_then, spelled_last, joined, exact_varint32, IsPart, exact_part, exact_word}
+use Rattle.rk_laws.proofs.BlockLemmas.{SpelledAt, Form}
 
--- what the steps of an entry's reading give
-record Steps (place : ℕ) (before bytes : List ℕ) (r : Entry (List ℕ) × List ℕ) : Type 0 where
-  shared : ℕ × List ℕ
-  rest_len : ℕ × List ℕ
-  value_len : ℕ × List ℕ
-  front : List ℕ × List ℕ
-  rest : List ℕ × List ℕ
-  value : List ℕ × List ℕ
-  shared_read : varint32_at bytes ≡ Ok shared
-  rest_len_read : varint32_at shared.1 ≡ Ok rest_len
-  value_len_read : varint32_at rest_len.1 ≡ Ok value_len
-  front_read : part_of shared.0 before ≡ Ok front
-  rest_read : part_of rest_len.0 value_len.1 ≡ Ok rest
-  value_read : part_of value_len.0 rest.1 ≡ Ok value
-  is : (record { place = place; shared = shared.0; key = front.0 ++ rest.0; value = value.0 }, value.1) ≡ r
-
-next_entry_steps : (len : ℕ) (before : Entry (List ℕ)) (bytes : List ℕ) (r : Entry (List ℕ) × List ℕ) → next_entry len before bytes ≡ Ok r → Steps (len - length bytes) before.key bytes r
-next_entry_steps len before bytes r e =
-    both_steps (varint32_at bytes) _ r (with_fault_ok _ _ r e) λ shared shared_read e1.
-    both_steps (varint32_at shared.1) _ r e1 λ rest_len rest_len_read e2.
-    both_steps (varint32_at rest_len.1) _ r e2 λ value_len value_len_read e3.
-    both_steps (part_of shared.0 before.key) _ r e3 λ front front_read e4.
-    both_steps (part_of rest_len.0 value_len.1) _ r e4 λ rest rest_read e5.
-    both_steps (part_of value_len.0 rest.1) _ r e5 λ value value_read e6.
-    record {
-      shared = shared;
-      rest_len = rest_len;
-      value_len = value_len;
-      front = front;
-      rest = rest;
-      value = value;
-      shared_read = shared_read;
-      rest_len_read = rest_len_read;
-      value_len_read = value_len_read;
-      front_read = front_read;
-      rest_read = rest_read;
-      value_read = value_read;
-      is = cc;
-    }
-
--- five parts in a row, and what follows them
-regroup : (a b c d e rest : List ℕ) → (a ++ (b ++ (c ++ (d ++ e)))) ++ rest ≡ a ++ (b ++ (c ++ (d ++ (e ++ rest))))
-regroup a b c d e rest = simp append_assoc
-
--- each part with what follows it
-in_a_row : (bytes a b c d e rest b1 b2 b3 b4 : List ℕ) → bytes ≡ a ++ b1 → b1 ≡ b ++ b2 → b2 ≡ c ++ b3 → b3 ≡ d ++ b4 → b4 ≡ e ++ rest → bytes ≡ (a ++ (b ++ (c ++ (d ++ e)))) ++ rest
-in_a_row bytes a b c d e rest b1 b2 b3 b4 w1 w2 w3 w4 w5 =
-    w1 ∙ ap (λ x. a ++ x) (w2 ∙ ap (λ x. b ++ x) (w3 ∙ ap (λ x. c ++ x) (w4 ∙ ap (λ x. d ++ x) w5))) ∙ sym (regroup a b c d e rest)
-
+-- the front of a list that was taken
 pub front_of : (whole front rest : List ℕ) (n : ℕ) → whole ≡ front ++ rest → length front ≡ n → (n ≤ length whole) × (front ≡ take n whole)
 front_of whole front rest n is len =
     (omega (arith, ap length is, length-append front rest), subst (λ n. front ≡ take n whole) len (subst (λ whole. front ≡ take (length front) whole) (sym is) (sym (take-append_seam front rest))))
 
-spelled_by : (place : ℕ) (before : Entry (List ℕ)) (bytes : List ℕ) (r : Entry (List ℕ) × List ℕ) → AreBytes bytes → Steps place before.key bytes r → Spelled SpellsEntry place before bytes r
-spelled_by place before bytes r are s =
-    let (shared_len, w1, shares, are1) = varint32_ok bytes s.shared are s.shared_read in
-    let (rest_len, w2, rests, are2) = varint32_ok s.shared.1 s.rest_len are1 s.rest_len_read in
-    let (value_len, w3, holds, are3) = varint32_ok s.rest_len.1 s.value_len are2 s.value_len_read in
-    let (w0, len0) = part_of_ok s.shared.0 before.key s.front s.front_read in
-    let (within, front) = front_of before.key s.front.0 s.front.1 s.shared.0 w0 len0 in
-    let (w4, len4) = part_of_ok s.rest_len.0 s.value_len.1 s.rest s.rest_read in
-    let (w5, len5) = part_of_ok s.value_len.0 s.rest.1 s.value s.value_read in
-    subst (λ (r : Entry (List ℕ) × List ℕ). Spelled SpellsEntry place before bytes r) s.is (record {
-      part = shared_len ++ (rest_len ++ (value_len ++ (s.rest.0 ++ s.value.0)));
-      whole = in_a_row bytes shared_len rest_len value_len s.rest.0 s.value.0 s.value.1 s.shared.1 s.rest_len.1 s.value_len.1 s.rest.1 w1 w2 w3 w4 w5;
-      place_is = refl;
-      spells = record {
-        shared_len = shared_len;
-        rest_len = rest_len;
-        value_len = value_len;
-        rest = s.rest.0;
-        spelled = refl;
-        shares = shares;
-        rests = subst (λ n. IsVarint32 rest_len n) (sym len4) rests;
-        holds = subst (λ n. IsVarint32 value_len n) (sym len5) holds;
-        within = within;
-        key = ap (λ x. x ++ s.rest.0) front;
-      };
+entry_ok : (place : ℕ) (before : Entry (List ℕ)) (bytes : List ℕ) (r : Entry (List ℕ) × List ℕ) → AreBytes bytes → entry_at place before.key bytes ≡ Ok r → Front (SpelledAt SpellsEntry place before) bytes r
+entry_ok place before bytes r are e =
+    read_then varint32_at IsVarint32 exact_varint32 bytes _ r are e λ shared a e1.
+    read_then varint32_at IsVarint32 exact_varint32 shared.1 _ r a.after e1 λ rest_len b e2.
+    read_then varint32_at IsVarint32 exact_varint32 rest_len.1 _ r b.after e2 λ value_len c e3.
+    both_steps (part_of shared.0 before.key) _ r e3 λ front front_read e4.
+    read_then (part_of rest_len.0) (IsPart rest_len.0) (exact_part rest_len.0) value_len.1 _ r c.after e4 λ rest d e5.
+    read_then (part_of value_len.0) (IsPart value_len.0) (exact_part value_len.0) rest.1 _ r d.after e5 λ value v e6.
+    let (front_whole, front_len) = part_of_ok shared.0 before.key front front_read in
+    let (within, front_is) = front_of before.key front.0 front.1 shared.0 front_whole front_len in
+    let same : (record { place = place; shared = shared.0; key = front.0 ++ rest.0; value = value.0 }, value.1) ≡ r = cc in
+    subst (λ (r : Entry (List ℕ) × List ℕ). Front (SpelledAt SpellsEntry place before) bytes r) same (record {
+      part = a.part ++ (b.part ++ (c.part ++ (d.part ++ v.part)));
+      whole = joined _ _ _ a.whole (joined _ _ _ b.whole (joined _ _ _ c.whole (joined _ _ _ d.whole v.whole)));
+      spells = (
+        refl,
+        record {
+          shared_len = a.part;
+          rest_len = b.part;
+          value_len = c.part;
+          rest = d.part;
+          value_bytes = v.part;
+          spelled = refl;
+          shares = a.spells;
+          rests = subst (λ n. IsVarint32 b.part n) (sym d.spells.1) b.spells;
+          holds = subst (λ n. IsVarint32 c.part n) (sym v.spells.1) c.spells;
+          within = within;
+          key = λ i. front_is i ++ sym d.spells.0 i;
+          value = v.spells.0;
+        },
+      );
+      after = v.after;
     })
 
-next_entry-spelled : (len : ℕ) (before : Entry (List ℕ)) (part rest : List ℕ) (entry : Entry (List ℕ)) → SpellsEntry before part entry → entry.place ≡ len - length (part ++ rest) → next_entry len before (part ++ rest) ≡ Ok (entry, rest)
-next_entry-spelled len before part rest entry s place =
-    let whole : part ++ rest ≡ s.shared_len ++ (s.rest_len ++ (s.value_len ++ (s.rest ++ (entry.value ++ rest)))) = ap (λ x. x ++ rest) s.spelled ∙ regroup s.shared_len s.rest_len s.value_len s.rest entry.value rest in
-    let shared_read : varint32_at (part ++ rest) ≡ Ok (entry.shared, s.rest_len ++ (s.value_len ++ (s.rest ++ (entry.value ++ rest)))) = ap varint32_at whole ∙ varint32-append s.shared_len _ entry.shared s.shares in
-    ap (with_fault _) (
-    first_step (varint32_at (part ++ rest)) _ _ shared_read
-    ∙ first_step _ _ _ (varint32-append s.rest_len _ (length s.rest) s.rests)
-    ∙ first_step _ _ _ (varint32-append s.value_len _ (length entry.value) s.holds)
+entry-spelled : (place : ℕ) (before : Entry (List ℕ)) (part rest : List ℕ) (entry : Entry (List ℕ)) → SpelledAt SpellsEntry place before part entry → entry_at place before.key (part ++ rest) ≡ Ok (entry, rest)
+entry-spelled place before part rest entry (place_is, s) =
+    ap (λ part. entry_at place before.key (part ++ rest)) s.spelled
+    ∙ spelled_then varint32_at IsVarint32 exact_varint32 s.shared_len _ rest _ entry.shared s.shares
+    ∙ spelled_then varint32_at IsVarint32 exact_varint32 s.rest_len _ rest _ (length s.rest) s.rests
+    ∙ spelled_then varint32_at IsVarint32 exact_varint32 s.value_len _ rest _ (length s.value_bytes) s.holds
     ∙ first_step _ _ _ (part_of-within entry.shared before.key s.within)
-    ∙ first_step _ _ _ (part_of-append s.rest (entry.value ++ rest))
-    ∙ first_step _ _ _ (part_of-append entry.value rest)
-    ∙ ap (λ (e : Entry (List ℕ)). let r : Result (Entry (List ℕ) × List ℕ) NumFault = Ok (e, rest) in r) (with_own entry (len - length (part ++ rest)) _ place s.key))
+    ∙ spelled_then (part_of (length s.rest)) (IsPart (length s.rest)) (exact_part (length s.rest)) s.rest _ rest _ s.rest (refl, refl)
+    ∙ spelled_last (part_of (length s.value_bytes)) (IsPart (length s.value_bytes)) (exact_part (length s.value_bytes)) s.value_bytes rest _ s.value_bytes (refl, refl)
+    ∙ (λ i. Ok (record { place = sym place_is i; shared = entry.shared; key = sym s.key i; value = s.value i }, rest))
 
--- an entry takes a byte at least
-some_bytes : (before : Entry (List ℕ)) (part : List ℕ) (entry : Entry (List ℕ)) → SpellsEntry before part entry → 1 ≤ length part
-some_bytes before part entry s = omega (arith, ap length s.spelled, length-append s.shared_len (s.rest_len ++ (s.value_len ++ (s.rest ++ entry.value))), varint_len s.shared_len s.shares.groups)
+pub exact_entry : (place : ℕ) (before : Entry (List ℕ)) → Exact (entry_at place before.key) (SpelledAt SpellsEntry place before)
+exact_entry place before = record { reads = entry_ok place before; spelled = entry-spelled place before }
 
 pub entry_form : Form next_entry SpellsEntry
 entry_form = record {
-  reads = λ len before bytes r are read. spelled_by (len - length bytes) before bytes r are (next_entry_steps len before bytes r read);
-  spelled = next_entry-spelled;
-  some = some_bytes;
+  at = λ place before bytes. with_fault (λ fault. BadEntry place) (entry_at place before.key bytes);
+  next_is = λ len before bytes. refl;
+  exact = λ place before. exact_word (λ fault. BadEntry place) (entry_at place before.key) (SpelledAt SpellsEntry place before) (exact_entry place before);
+  some = λ before part entry s. omega (arith, ap length s.spelled, length-append s.shared_len (s.rest_len ++ (s.value_len ++ (s.rest ++ s.value_bytes))), varint_len s.shared_len s.shares.groups);
 }

@@ -1,8 +1,9 @@
 -- Readers that give just what is spelled, and how they are put together.
-use Rattle.std.proofs.Common.{◌≡◌, ℕ, Bool, true, false, cond, List, ◌++◌, Result, Ok, Err, refl, sym, ◌∙◌, ap, subst, append_assoc}
+use Rattle.std.proofs.Common.{◌≡◌, ℕ, Bool, true, false, cond, List, ◌++◌, length, Result, Ok, Err, refl, sym, ◌∙◌, ap, subst, append_assoc}
 use Rattle.std.proofs.lemmas.Bool.{cond-true, cond-false}
-use Rattle.rk_bytes.specs.Model.Numbers.{AreBytes, Read, ◌>>=◌, IsVarint32, IsVarint64, IsPrefixed, varint32_at, varint64_at, prefixed_at, reads_or}
-use Rattle.rk_laws.proofs.ReadingLemmas.{both_steps, first_step, passed, taken, varint32_ok, varint32-append, varint64_ok, varint64-append, prefixed_ok, prefixed-append}
+use Rattle.rk_bytes.specs.Model.Numbers.{AreBytes, Read, ◌>>=◌, IsVarint32, IsVarint64, IsPrefixed, part_of, varint32_at, varint64_at, prefixed_at, reads_or}
+use Rattle.rk_bytes.specs.Model.BlockEntries.{with_fault}
+use Rattle.rk_laws.proofs.ReadingLemmas.{both_steps, first_step, with_fault_ok, passed, taken, bytes_after, part_of_ok, part_of-append, varint32_ok, varint32-append, varint64_ok, varint64-append, prefixed_ok, prefixed-append}
 
 -- the bytes that spell what was read, and those after it
 pub record Front {A : Type 0} (Spells : List ℕ → A → Type 0) (bytes : List ℕ) (r : A × List ℕ) : Type 0 where
@@ -15,6 +16,24 @@ pub record Front {A : Type 0} (Spells : List ℕ → A → Type 0) (bytes : List
 pub record Exact {A F : Type 0} (read : List ℕ → Result (A × List ℕ) F) (Spells : List ℕ → A → Type 0) : Type 0 where
   pub reads : (bytes : List ℕ) (r : A × List ℕ) → AreBytes bytes → read bytes ≡ Ok r → Front Spells bytes r
   pub spelled : (part rest : List ℕ) (x : A) → Spells part x → read (part ++ rest) ≡ Ok (x, rest)
+
+-- a step of a reading: what was read, what spells it, and how the reading goes on
+pub read_then : {A B F C : Type 0} (read : List ℕ → Result (A × List ℕ) F) (S : List ℕ → A → Type 0) → Exact read S → (bytes : List ℕ) (f : A × List ℕ → Result B F) (b : B) → AreBytes bytes → (read bytes >>= f) ≡ Ok b
+    → ((a : A × List ℕ) → Front S bytes a → f a ≡ Ok b → C) → C
+read_then read S x bytes f b are e so = both_steps (read bytes) f b e λ a a_read e1. so a (x.reads bytes a are a_read) e1
+
+-- a step over what is spelled, where more of the same spelling follows
+pub spelled_then : {A B F : Type 0} (read : List ℕ → Result (A × List ℕ) F) (S : List ℕ → A → Type 0) → Exact read S → (part more rest : List ℕ) (f : A × List ℕ → Result B F) (a : A) → S part a → (read ((part ++ more) ++ rest) >>= f) ≡ f (a, more ++ rest)
+spelled_then read S x part more rest f a s =
+    ap (λ bytes. read bytes >>= f) (append_assoc part more rest) ∙ first_step (read (part ++ (more ++ rest))) f (a, more ++ rest) (x.spelled part (more ++ rest) a s)
+
+-- and where it is the last
+pub spelled_last : {A B F : Type 0} (read : List ℕ → Result (A × List ℕ) F) (S : List ℕ → A → Type 0) → Exact read S → (part rest : List ℕ) (f : A × List ℕ → Result B F) (a : A) → S part a → (read (part ++ rest) >>= f) ≡ f (a, rest)
+spelled_last read S x part rest f a s = first_step (read (part ++ rest)) f (a, rest) (x.spelled part rest a s)
+
+-- two parts in a row, and what follows them
+pub joined : {bytes after : List ℕ} (a b rest : List ℕ) → bytes ≡ a ++ after → after ≡ b ++ rest → bytes ≡ (a ++ b) ++ rest
+joined a b rest first second = first ∙ ap (λ bytes. a ++ bytes) second ∙ sym (append_assoc a b rest)
 
 pub front_as : {A : Type 0} (S T : List ℕ → A → Type 0) (bytes : List ℕ) (r : A × List ℕ) → ((part : List ℕ) (x : A) → S part x → T part x) → Front S bytes r → Front T bytes r
 front_as S T bytes r to f = record { part = f.part; whole = f.whole; spells = to f.part r.0 f.spells; after = f.after }
@@ -35,6 +54,23 @@ pub exact_prefixed : Exact prefixed_at IsPrefixed
 exact_prefixed = record {
   reads = λ bytes r are e. let (part, whole, is, after) = prefixed_ok bytes r are e in record { part = part; whole = whole; spells = is; after = after };
   spelled = prefixed-append;
+}
+
+-- so many bytes
+abbrev pub IsPart : ℕ → List ℕ → List ℕ → Type 0
+IsPart n part x = (part ≡ x) × (length part ≡ n)
+
+pub exact_part : (n : ℕ) → Exact (part_of n) (IsPart n)
+exact_part n = record {
+  reads = λ bytes r are e. let (whole, len) = part_of_ok n bytes r e in record { part = r.0; whole = whole; spells = (refl, len); after = bytes_after bytes r.0 r.1 are whole };
+  spelled = λ part rest x s. subst (λ n. part_of n (part ++ rest) ≡ Ok (part, rest)) s.1 (part_of-append part rest) ∙ ap (λ x. Ok (x, rest)) s.0;
+}
+
+-- with another word for the fault
+pub exact_word : {A F G : Type 0} (word : F → G) (read : List ℕ → Result (A × List ℕ) F) (S : List ℕ → A → Type 0) → Exact read S → Exact (λ bytes. with_fault word (read bytes)) S
+exact_word word read S x = record {
+  reads = λ bytes r are e. x.reads bytes r are (with_fault_ok word (read bytes) r e);
+  spelled = λ part rest a s. ap (with_fault word) (x.spelled part rest a s);
 }
 
 pub reads_or_ok : {A F : Type 0} (fault : F) (read : Read A) (r : A × List ℕ) → reads_or fault read ≡ Ok r → read ≡ Ok r

@@ -1,5 +1,5 @@
 -- What a reading gives is what its bytes spell.
-use Rattle.std.specs.Prelude.{nat_lt, nat_le}
+use Rattle.std.specs.Prelude.{nat_lt, nat_le, find, Some}
 use Rattle.std.proofs.Common.{◌≡◌, ℕ, suc, ◌+◌, ◌^◌, ◌<◌, ◌≤◌, Bool, true, false, cond, List, [], ◌∷◌, ◌++◌, length, take, drop, Result, Ok, Err, refl, sym, ◌∙◌, add-one, ap, subst, arith, inl, inr, append_assoc}
 use Rattle.std.specs.List.{AllByRecursion}
 use Rattle.std.proofs.lemmas.Bool.{lt-ltb, ltb-true, le-ltb, ltb-false, le-leb, lt-leb, cases_lt}
@@ -30,6 +30,15 @@ passed false fault r a e = (refl, e)
 pub taken : {A F : Type 0} (b : Bool) (fault : F) (x a : A) → cond b (Ok x) (Err fault) ≡ Ok a → (b ≡ true) × (x ≡ a)
 taken true fault x a e = (refl, cc)
 taken false fault x a e = absurd cc
+
+-- what is found passes the test
+pub found_passes : {A : Type 0} (test : A → Bool) (items : List A) (item : A) → find test items ≡ Some item → test item ≡ true
+found_passes test [] item e = absurd cc
+found_passes {A} test (first ∷ items) item e = by (test first) refl e (found_passes test items item)
+  where
+    by : (told : Bool) → test first ≡ told → cond told (Some first) (find test items) ≡ Some item → (find test items ≡ Some item → test item ≡ true) → test item ≡ true
+    by true told e later = let same : first ≡ item = cc in ap test (sym same) ∙ told
+    by false told e later = later e
 
 -- numbers that are bytes
 pub rest_of_bytes : (part rest : List ℕ) → AreBytes (part ++ rest) → AreBytes rest
@@ -68,7 +77,8 @@ high_more b bytes h = rw (take_while-cons (λ b. nat_le 128 b) b bytes, le-leb 1
 high_none : (b : ℕ) (bytes : List ℕ) → b < 128 → high_count (b ∷ bytes) ≡ 0
 high_none b bytes h = rw (take_while-cons (λ b. nat_le 128 b) b bytes, lt-leb 128 b h)
 
-one_more_group : (b : ℕ) (bytes : List ℕ) → 128 ≤ b → b < 256 → IsVarint bytes → IsVarint (b ∷ bytes)
+-- a group before a varint
+pub one_more_group : (b : ℕ) (bytes : List ℕ) → 128 ≤ b → b < 256 → IsVarint bytes → IsVarint (b ∷ bytes)
 one_more_group b [] high fits groups = absurd groups
 one_more_group b (next ∷ bytes) high fits groups = (high, fits, groups)
 

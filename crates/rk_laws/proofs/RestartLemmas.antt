@@ -1,29 +1,15 @@
 -- The parts of a block that are read from its end are those that it is made of.
-use Rattle.std.proofs.Common.{◌≡◌, ℕ, zero, suc, ◌+◌, ◌-◌, ◌*◌, ◌/◌, ◌%◌, ◌^◌, ◌<◌, ◌≤◌, Bool, true, false, List, [], ◌∷◌, ◌++◌, length, take, drop, Result, Ok, refl, sym, ◌∙◌, ap, subst, arith}
+use Rattle.std.proofs.Common.{◌≡◌, ℕ, zero, suc, ◌+◌, ◌-◌, ◌*◌, ◌^◌, ◌<◌, ◌≤◌, false, List, [], ◌∷◌, ◌++◌, length, take, drop, Result, Ok, refl, sym, ◌∙◌, ap, subst, arith}
 use Rattle.std.specs.Prelude.{flat_map, nat_lt, nat_le, ◌==◌, ◌||◌}
 use Rattle.std.specs.List.{AllByRecursion}
-use Rattle.std.proofs.lemmas.Bool.{le-ltb, ltb-false, lt-leb, leb-false, eqb-false, ne_eqb}
+use Rattle.std.proofs.lemmas.Bool.{le-ltb, ltb-false, lt-leb, leb-false, eqb-false, ne_eqb, or_parts}
 use Rattle.std.proofs.lemmas.List.{take-append-drop, length-take-le, length-append, length-drop, drop-drop}
 use Rattle.std.proofs.Math.Seq.{take-append_seam, drop-append_seam, drop-append-add}
 use Rattle.rk_bytes.specs.declared.model.block.BlockFault.{BlockFault}
 use Rattle.rk_bytes.specs.Model.Numbers.{AreBytes, little_endian, fixed_of}
 use Rattle.rk_bytes.specs.Model.BlockEntries.{fixed32s, restart_count, block_parts}
 use Rattle.rk_laws.proofs.ReadingLemmas.{passed, rest_of_bytes, front_of_bytes, bytes_after}
-
--- a byte before a number, and the number apart from it again
-low_byte : (b m : ℕ) → b < 256 → (b + 256 * m) % 256 ≡ b
-low_byte b m h = omega arith
-
-high_bytes : (b m : ℕ) → b < 256 → (b + 256 * m) / 256 ≡ m
-high_bytes b m h = omega arith
-
-pub fixed_of-little_endian : (bytes : List ℕ) → AreBytes bytes → fixed_of (length bytes) (little_endian bytes) ≡ bytes
-fixed_of-little_endian [] are = refl
-fixed_of-little_endian (b ∷ bytes) are =
-    rw (low_byte b (little_endian bytes) are.0, high_bytes b (little_endian bytes) are.0) (ap (λ rest. b ∷ rest) (fixed_of-little_endian bytes are.1))
-
-pub little_endian-fixed32 : (n : ℕ) → n < 2 ^ 32 → little_endian (fixed_of 4 n) ≡ n
-little_endian-fixed32 n h = omega arith
+use Rattle.rk_laws.proofs.FixedNumbers.{little_endian-fixed_of, fixed_of-little_endian}
 
 -- the offsets that bytes spell, and their bytes again
 fixed32s-bytes : (n : ℕ) (bytes : List ℕ) → AreBytes bytes → length bytes ≡ 4 * n → (flat_map (fixed_of 4) (fixed32s bytes) ≡ bytes) × (length (fixed32s bytes) ≡ n) × AllByRecursion (λ offset. offset < 2 ^ 32) (fixed32s bytes)
@@ -42,12 +28,7 @@ fixed32s-spelled : (offsets : List ℕ) → AllByRecursion (λ offset. offset < 
 fixed32s-spelled [] fit = (refl, refl)
 fixed32s-spelled (n ∷ offsets) fit =
     let (more, len) = fixed32s-spelled offsets fit.1 in
-    (ap (λ first. first ∷ fixed32s (flat_map (fixed_of 4) offsets)) (little_endian-fixed32 n fit.0) ∙ ap (λ rest. n ∷ rest) more, omega (arith, len))
-
-neither : (a b : Bool) → (a || b) ≡ false → (a ≡ false) × (b ≡ false)
-neither false false e = (refl, refl)
-neither false true e = absurd cc
-neither true b e = absurd cc
+    (ap (λ first. first ∷ fixed32s (flat_map (fixed_of 4) offsets)) (little_endian-fixed_of 4 n fit.0) ∙ ap (λ rest. n ∷ rest) more, omega (arith, len))
 
 -- the parts of a block with room for this count
 parts_with : List ℕ → ℕ → List ℕ × List ℕ
@@ -75,7 +56,7 @@ counted_of block r e =
     let long = passed (nat_lt (length block) 4) _ _ r e in
     let few = passed (nat_le (2 ^ 31) (restart_count block)) _ _ r long.1 in
     let fitting = passed (restart_count block == 0 || nat_lt (length block) (4 + 4 * restart_count block)) _ _ r few.1 in
-    let tests = neither (restart_count block == 0) _ fitting.0 in
+    let tests = or_parts (restart_count block == 0) _ fitting.0 in
     (record { is = refl; some = above_zero (restart_count block) tests.0; few = leb-false (2 ^ 31) (restart_count block) few.0; room = ltb-false (length block) (4 + 4 * restart_count block) tests.1 }, cc)
 
 -- The block is made of these parts, and of how many offsets there are.
@@ -130,5 +111,5 @@ pub block_parts-made : (block : List ℕ) (r : List ℕ × List ℕ) → 0 < len
 block_parts-made block r some m =
     let (offsets, len) = fixed32s-spelled r.1 m.fit in
     ap block_parts m.whole
-    ∙ parts_of r.0 (flat_map (fixed_of 4) r.1) (fixed_of 4 (length r.1)) (length r.1) len refl (little_endian-fixed32 (length r.1) (omega (arith, m.few))) some m.few
+    ∙ parts_of r.0 (flat_map (fixed_of 4) r.1) (fixed_of 4 (length r.1)) (length r.1) len refl (little_endian-fixed_of 4 (length r.1) (omega (arith, m.few))) some m.few
     ∙ ap (λ (offsets : List ℕ). let parts : Result (List ℕ × List ℕ) BlockFault = Ok (r.0, offsets) in parts) offsets

@@ -1,12 +1,13 @@
--- A number's shortest varint is read again, whatever follows it.
-use Rattle.std.proofs.Common.{◌≡◌, ℕ, zero, suc, ◌+◌, ◌*◌, ◌/◌, ◌%◌, ◌^◌, ◌<◌, ◌≤◌, Bool, true, false, List, [], ◌∷◌, ◌++◌, length, take, drop, nat_lt, nat_le, cond, refl, ap, ◌∙◌, arith, length-append}
+-- A number's shortest varint is read again, whatever follows it, and no spelling is shorter.
+use Rattle.std.proofs.Common.{◌≡◌, ℕ, zero, suc, ◌+◌, ◌*◌, ◌/◌, ◌%◌, ◌^◌, ◌<◌, ◌≤◌, Bool, true, false, List, [], ◌∷◌, ◌++◌, length, take, drop, nat_lt, nat_le, cond, refl, sym, ap, subst, ◌∙◌, arith, length-append}
 use Rattle.std.specs.Prelude.{Ok, Err}
 use Rattle.std.specs.List.{prefix_len}
 use Rattle.std.proofs.lemmas.List.Folds.{length-prefix_len}
 use Rattle.std.proofs.Math.Seq.{take-append_seam, drop-append_seam}
 use borrow.Author.Tests.{ltb-true, ltb-false, lt-ltb, le-ltb, le-leb, lt-leb}
 use Rattle.rk_bytes.specs.declared.model.number.NumFault.TheVariants.{Cut, TooLarge}
-use Rattle.rk_bytes.specs.Model.Numbers.{Read, varint_with, varint_at, groups_value, high_count}
+use Rattle.rk_bytes.specs.Model.Numbers.{IsVarint, IsVarint32, IsVarint64, Read, varint_with, varint_of, varint_at, groups_value, high_count}
+use Rattle.rk_laws.proofs.ReadingLemmas.{one_more_group}
 
 -- 128 to the power of more + 1
 abbrev bound : ℕ → ℕ
@@ -77,3 +78,37 @@ varint_at-varint most bits more n rest below fewer fits =
     let len_is : high_count (bytes ++ rest) + 1 ≡ length bytes = ap (λ len. len + 1) (length-prefix_len is_high (bytes ++ rest)) ∙ prefix_len-varint more n rest below in
     ap (λ len. answer (suc most) bits len (bytes ++ rest)) len_is
     ∙ answer-append (suc most) bits n bytes rest (groups_value-varint more n below) (length-varint more most n fewer) fits
+
+-- what is written is a varint
+groups-varint : (more n : ℕ) → n < bound more → IsVarint (varint_with more n)
+groups-varint zero n below = below
+groups-varint (suc more) n below = by (nat_lt n 128) refl (groups-varint more (n / 128) (omega arith))
+  where
+    by : (test : Bool) → nat_lt n 128 ≡ test → IsVarint (varint_with more (n / 128)) → IsVarint (cond test (n ∷ []) ((n % 128 + 128) ∷ varint_with more (n / 128)))
+    by true told after = ltb-true n 128 told
+    by false told after = one_more_group (n % 128 + 128) (varint_with more (n / 128)) (omega arith) (omega arith) after
+
+pub IsVarint32-varint_of : (n : ℕ) → n < 2 ^ 32 → IsVarint32 (varint_of n) n
+IsVarint32-varint_of n below = record {
+  groups = groups-varint 9 n (omega arith);
+  short = length-varint 9 4 n (omega arith);
+  fits = below;
+  value = sym (groups_value-varint 9 n (omega arith));
+}
+
+pub IsVarint64-varint_of : (n : ℕ) → n < 2 ^ 64 → IsVarint64 (varint_of n) n
+IsVarint64-varint_of n below = record {
+  groups = groups-varint 9 n (omega arith);
+  short = length-varint 9 9 n (omega arith);
+  fits = below;
+  value = sym (groups_value-varint 9 n (omega arith));
+}
+
+-- so many groups have a value below this bound
+groups_value-below : (b : ℕ) (bytes : List ℕ) → groups_value (b ∷ bytes) < bound (length bytes)
+groups_value-below b [] = omega arith
+groups_value-below b (next ∷ bytes) = let below = groups_value-below next bytes in omega arith
+
+pub shortest : (n : ℕ) (bytes : List ℕ) → IsVarint64 bytes n → length (varint_of n) ≤ length bytes
+shortest n [] v = absurd v.groups
+shortest n (b ∷ bytes) v = length-varint 9 (length bytes) n (subst (λ n. n < bound (length bytes)) (sym v.value) (groups_value-below b bytes))

@@ -7,21 +7,31 @@ mod best_efforts;
 mod blocks;
 mod checksums;
 mod commands;
+mod descent;
+mod disk_images;
 mod edit;
 mod internal_key;
 mod log_items;
 mod manifest;
+mod names;
 mod numbers;
 mod records;
+mod salvage;
 
 pub use batch::one_batch;
 pub use best_efforts::one_best_vector;
-pub use blocks::{one_block, one_delta_index};
+pub use blocks::{one_block, one_delta_index, one_index};
 pub use checksums::{crc32c_of_appended, mask_round_trip};
 pub use commands::one_command;
+pub use descent::{descends_from_itself, descent_goes_through, ready_after_a_stop};
+pub use disk_images::{
+    contents_at_rest, image_of_an_image, images_of_synced_names, one_image_at_rest,
+};
 pub use edit::one_edit;
 pub use internal_key::{key_order, key_round_trip};
 pub use log_items::one_parting;
 pub use manifest::one_list_of_units;
-pub use numbers::{one_varint, varint_round_trip};
-pub use records::{last_of_appended, place_order};
+pub use names::one_name;
+pub use numbers::{one_varint, shortest_varint, varint_round_trip, zigzag_round_trip};
+pub use records::{last_of_appended, slot_order};
+pub use salvage::{nothing_to_add, records_in_order};

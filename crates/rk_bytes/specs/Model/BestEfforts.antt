@@ -17,14 +17,14 @@ use Rattle.rk_bytes.specs.declared.model.open.OpenErr.{OpenErr}
 use Rattle.rk_bytes.specs.declared.model.open.OpenErr.TheVariants.{UnsupportedTable, NoUsableManifest}
 use Rattle.rk_bytes.specs.declared.model.table.TableWhat.TheVariants.{Version as newer_version}
 use Rattle.rk_bytes.specs.Model.Numbers.{◌>>=◌, in_turn}
-use Rattle.rk_bytes.specs.Model.Checksums.{crc_bit, crc_bits, crc_bytes, crc32c}
-use Rattle.rk_bytes.specs.Model.LogMarks.{found, block_marks, block_len, blocks_marks, log_marks}
+use Rattle.rk_bytes.specs.Model.Checksums.{pieces, crc_bit, crc_bits, crc_bytes, crc32c}
+use Rattle.rk_bytes.specs.Model.LogMarks.{fragment_found, found, marks_from, block_len, blocks_marks, log_marks}
 use Rattle.rk_bytes.specs.Model.TableFooter.{footer_of}
 use Rattle.rk_bytes.specs.Model.TableStatus.{table_status}
 use Rattle.rk_bytes.specs.Model.Records.{last_records}
 use Rattle.rk_bytes.specs.Model.DiskImages.{Directory}
 use Rattle.rk_bytes.specs.Model.FileNames.{manifest_name, table_name, name_of}
-use Rattle.rk_bytes.specs.Model.BlockEntries.{each}
+use Rattle.rk_bytes.specs.Model.BlockEntries.{collected}
 use Rattle.rk_bytes.specs.Model.InternalKey.{internal_key}
 use Rattle.rk_bytes.specs.Model.VersionEdit.{Field, log_number, next_file, last_sequence, delete_file, add_file, family, family_add, file_with, added_in, edit_fields}
 use Rattle.rk_bytes.specs.Model.Manifest.{ManifestUnit, edits_of, parted_units, file_meta, first_version, steps_in_order, edit_step, overlap, unit_step, version_after, version_at, complete, manifest_units, has_id}
@@ -181,7 +181,7 @@ best_line units points live = record { id = live.id; name = live.name; log = liv
 -- what the tables at the points hold, or the lowest of them that isn't supported
 unfoldable pub best_with : Files → ℕ → List ManifestUnit → List Point → Result Best OpenErr
 best_with files number units points = do
-  tables ← each (table_file files) (tables_at units points)
+  tables ← collected (table_file files) (tables_at units points)
   Ok (record {
     state = state_with (map (best_line units points) (last_families units)) tables [];
     manifest = number;
@@ -296,7 +296,7 @@ of_a_manifest :
       units = 1;
       points = record { family = 0; at = 1 } ∷ [];
     })
-unfolding best_files best_with best_where some_files digits log_marks blocks_marks block_marks found block_len crc32c crc_bytes crc_bits crc_bit edits_of parted_units edit_fields in_turn
+unfolding best_files best_with best_where some_files digits log_marks blocks_marks marks_from found fragment_found block_len pieces crc32c crc_bytes crc_bits crc_bit edits_of parted_units edit_fields in_turn
 of_a_manifest = refl
 
 of_no_manifest : best_files (λ name. None) [] ≡ Err NoUsableManifest

@@ -27,11 +27,11 @@ with_fault word (Ok x) = Ok x
 with_fault word (Err fault) = Err (word fault)
 
 -- what a function gives of each item, or the first fault
-abbrev pub each : {A B F : Type 0} → (A → Result B F) → List A → Result (List B) F
-each give [] = Ok []
-each give (item ∷ items) = do
+abbrev pub collected : {A B F : Type 0} → (A → Result B F) → List A → Result (List B) F
+collected give [] = Ok []
+collected give (item ∷ items) = do
   first ← give item
-  rest ← each give items
+  rest ← collected give items
   Ok (first ∷ rest)
 
 -- the value that was read, where nothing follows it
@@ -63,24 +63,28 @@ rises (a ∷ b ∷ numbers) = nat_lt a b && rises (b ∷ numbers)
 rises _ = true
 
 -- a restart offset is the place of an entry that shares nothing
-abbrev is_restart : {V : Type 0} → List (Entry V) → ℕ → Bool
+abbrev pub is_restart : {V : Type 0} → List (Entry V) → ℕ → Bool
 is_restart entries offset = list_any (λ entry. entry.place == offset && entry.shared == 0) entries
 
+-- The restart offsets are right: they rise from 0, and each is that of a restart. Without an entry there is one.
 abbrev pub right_restarts : {V : Type 0} → List (Entry V) → List ℕ → Bool
 right_restarts [] offsets = bytes_eq offsets (0 ∷ [])
-right_restarts entries offsets = bytes_eq (take 1 offsets) (0 ∷ []) && rises offsets && list_all (is_restart entries) offsets
+right_restarts entries offsets =
+    bytes_eq (take 1 offsets) (0 ∷ []) && rises offsets && list_all (is_restart entries) offsets
 
 -- before the first entry: an empty key
 abbrev pub no_entry : {V : Type 0} → V → Entry V
 no_entry value = record { place = 0; shared = 0; key = []; value = value }
 
--- The entries up to the bytes' end, each read after the one before it. Each takes a byte at least,
--- so that n entries are enough for n bytes.
+-- The entries up to the bytes' end, each read after the one before it. There are at most n of them: where
+-- bytes are left, the fault is that of reading where there are none.
 unfoldable pub entries_after : {V F : Type 0} → (Entry V → List ℕ → Result (Entry V × List ℕ) F) → ℕ → Entry V → List ℕ → Result (List (Entry V)) F
 entries_after next n before [] = Ok []
-entries_after next zero before bytes = Ok []
-entries_after next (suc n) before bytes = do
-  entry ← next before bytes
+entries_after next zero before (b ∷ bytes) = do
+  entry ← next before []
+  Ok (entry.0 ∷ [])
+entries_after next (suc n) before (b ∷ bytes) = do
+  entry ← next before (b ∷ bytes)
   entries ← entries_after next n entry.0 entry.1
   Ok (entry.0 ∷ entries)
 
@@ -92,16 +96,22 @@ block_with word nothing next block = do
   entries ← entries_after (next (length parts.0)) (length parts.0) (no_entry nothing) parts.0
   if right_restarts entries parts.1 then Ok entries else Err (word BadRestarts)
 
--- An entry: the lengths of the shared part, of the rest of the key and of the value; the rest; the value.
-abbrev pub next_entry : ℕ → Entry (List ℕ) → List ℕ → Result (Entry (List ℕ) × List ℕ) BlockFault
-next_entry len before bytes = let place = len - length bytes in with_fault (λ fault. BadEntry place) (do
+-- An entry at this place, after a key: the lengths of the shared part, of the rest of the key and of the value;
+-- the rest; the value.
+abbrev pub entry_at : ℕ → List ℕ → List ℕ → Read (Entry (List ℕ))
+entry_at place before bytes = do
   shared ← varint32_at bytes
   rest_len ← varint32_at shared.1
   value_len ← varint32_at rest_len.1
-  front ← part_of shared.0 before.key
+  front ← part_of shared.0 before
   rest ← part_of rest_len.0 value_len.1
   value ← part_of value_len.0 rest.1
-  Ok (record { place = place; shared = shared.0; key = front.0 ++ rest.0; value = value.0 }, value.1))
+  Ok (record { place = place; shared = shared.0; key = front.0 ++ rest.0; value = value.0 }, value.1)
+
+-- the entry after another, at the front of the last bytes of a part of this length
+abbrev pub next_entry : ℕ → Entry (List ℕ) → List ℕ → Result (Entry (List ℕ) × List ℕ) BlockFault
+next_entry len before bytes =
+    let place = len - length bytes in with_fault (λ fault. BadEntry place) (entry_at place before.key bytes)
 
 -- the entries of a block, or the first fault
 unfoldable pub block_entries : List ℕ → Result (List (Entry (List ℕ))) BlockFault
@@ -111,10 +121,13 @@ block_entries block = block_with (λ fault. fault) [] next_entry block
 abbrev pub Spelling : Type 0 → Type 1
 Spelling V = Entry V → List ℕ → Entry V → Type 0
 
--- The bytes spell these entries, from a place on and after an entry.
-pub data AreEntries {V : Type 0} (Spells : Spelling V) : ℕ → Entry V → List ℕ → List (Entry V) → Type 0 where
-  no_more : {place : ℕ} {before : Entry V} → AreEntries Spells place before [] []
-  one_more : {place : ℕ} {before entry : Entry V} {bytes spelled rest : List ℕ} {entries : List (Entry V)} → bytes ≡ spelled ++ rest → entry.place ≡ place → Spells before spelled entry → AreEntries Spells (place + length spelled) entry rest entries → AreEntries Spells place before bytes (entry ∷ entries)
+-- The bytes spell these entries, one after another, from a place on and after an entry.
+abbrev pub AreEntries : {V : Type 0} → Spelling V → ℕ → Entry V → List ℕ → List (Entry V) → Type 0
+AreEntries Spells place before bytes [] = bytes ≡ []
+AreEntries Spells place before bytes (entry ∷ entries) =
+    (spelled : List ℕ) × (rest : List ℕ) × (bytes ≡ spelled ++ rest)
+    × (entry.place ≡ place) × Spells before spelled entry
+    × AreEntries Spells (place + length spelled) entry rest entries
 
 -- The bytes are a block of these entries: their spelling, restart offsets that are right for them, and
 -- how many offsets there are.
@@ -127,19 +140,26 @@ pub record IsBlock {V : Type 0} (Spells : Spelling V) (nothing : V) (block : Lis
   pub are : AreEntries Spells 0 (no_entry nothing) spelled entries
   pub restarts : IsTrue (right_restarts entries offsets)
 
--- An entry is spelled by three lengths, each in any spelling, the rest of its key and its value.
-pub record SpellsEntry (before : Entry (List ℕ)) (bytes : List ℕ) (entry : Entry (List ℕ)) : Type 0 where
+-- An entry is spelled by three lengths, each in any spelling, the rest of its key, and its value's bytes.
+pub record SpellsEntryWith {V : Type 0} (SpellsEntryValue : List ℕ → V → Type 0) (before : Entry V) (bytes : List ℕ) (entry : Entry V) : Type 0 where
   pub shared_len : List ℕ
   pub rest_len : List ℕ
   pub value_len : List ℕ
   pub rest : List ℕ
-  pub spelled : bytes ≡ shared_len ++ (rest_len ++ (value_len ++ (rest ++ entry.value)))
+  pub value_bytes : List ℕ
+  pub spelled : bytes ≡ shared_len ++ (rest_len ++ (value_len ++ (rest ++ value_bytes)))
   pub shares : IsVarint32 shared_len entry.shared
   pub rests : IsVarint32 rest_len (length rest)
-  pub holds : IsVarint32 value_len (length entry.value)
+  pub holds : IsVarint32 value_len (length value_bytes)
   pub within : entry.shared ≤ length before.key
   pub key : entry.key ≡ take entry.shared before.key ++ rest
+  pub value : SpellsEntryValue value_bytes entry.value
 
+-- an entry whose value is its bytes
+abbrev pub SpellsEntry : Spelling (List ℕ)
+SpellsEntry before bytes entry = SpellsEntryWith (λ spelled value. spelled ≡ value) before bytes entry
+
+-- the handle at the front of bytes: its offset, and its size
 abbrev pub handle_at : List ℕ → Read Handle
 handle_at bytes = do
   offset ← varint64_at bytes
@@ -148,7 +168,8 @@ handle_at bytes = do
 
 -- a handle whose numbers fit 64 bits
 abbrev pub fitting_handle : ℕ → ℤ → Result Handle NumFault
-fitting_handle offset (pos size) = if nat_lt offset (2 ^ 64) && nat_lt size (2 ^ 64) then Ok (record { offset = offset; size = size }) else Err TooLarge
+fitting_handle offset (pos size) =
+    if nat_lt offset (2 ^ 64) && nat_lt size (2 ^ 64) then Ok (record { offset = offset; size = size }) else Err TooLarge
 fitting_handle offset (negsuc size) = Err TooLarge
 
 -- the handle of the block right after another block's trailer, of which the sizes' difference is written
@@ -172,15 +193,18 @@ abbrev pub delta_value_at : ℕ → Handle → List ℕ → Read Handle
 delta_value_at zero before bytes = handle_at bytes
 delta_value_at (suc shared) before bytes = handle_after before bytes
 
+-- An entry of an index with delta-encoded handles: its key, and its handle after the one before.
 abbrev pub next_delta_entry : ℕ → Entry Handle → List ℕ → Result (Entry Handle × List ℕ) IndexFault
 next_delta_entry len before bytes = let place = len - length bytes in do
   key ← with_fault (λ fault. Block (BadEntry place)) (delta_key_at before.key bytes)
   handle ← with_fault (λ fault. BadHandle) (delta_value_at key.0.0 before.value key.1)
   Ok (record { place = place; shared = key.0.0; key = key.0.1; value = handle.0 }, handle.1)
 
+-- before the first entry
 abbrev pub no_handle : Handle
 no_handle = record { offset = 0; size = 0 }
 
+-- the entries of an index block with delta-encoded handles, or the first fault
 abbrev pub delta_handles : List ℕ → Result (List (Entry Handle)) IndexFault
 delta_handles block = block_with Block no_handle next_delta_entry block
 
@@ -201,38 +225,64 @@ pub record SpellsDifference (before : Handle) (bytes : List ℕ) (handle : Handl
   pub size_fits : handle.size < 2 ^ 64
   pub offset_fits : handle.offset < 2 ^ 64
 
+-- The bytes are an entry's handle: whole where the key shares nothing, else the difference of the sizes.
 abbrev pub SpellsDeltaValue : ℕ → Handle → List ℕ → Handle → Type 0
 SpellsDeltaValue zero before bytes handle = SpellsHandle bytes handle
 SpellsDeltaValue (suc shared) before bytes handle = SpellsDifference before bytes handle
 
--- Where values are delta-encoded, an entry is spelled by two lengths, the rest of its key and its handle.
-pub record SpellsDeltaEntry (before : Entry Handle) (bytes : List ℕ) (entry : Entry Handle) : Type 0 where
+-- Where values are delta-encoded, a key is spelled by two lengths and the rest of it.
+pub record SpellsDeltaKey (before bytes : List ℕ) (shared : ℕ) (key : List ℕ) : Type 0 where
   pub shared_len : List ℕ
   pub rest_len : List ℕ
   pub rest : List ℕ
-  pub handle : List ℕ
-  pub spelled : bytes ≡ shared_len ++ (rest_len ++ (rest ++ handle))
-  pub shares : IsVarint32 shared_len entry.shared
+  pub spelled : bytes ≡ shared_len ++ (rest_len ++ rest)
+  pub shares : IsVarint32 shared_len shared
   pub rests : IsVarint32 rest_len (length rest)
-  pub within : entry.shared ≤ length before.key
-  pub key : entry.key ≡ take entry.shared before.key ++ rest
-  pub value : SpellsDeltaValue entry.shared before.value handle entry.value
+  pub within : shared ≤ length before
+  pub key_is : key ≡ take shared before ++ rest
+
+-- Such an entry is spelled by its key and its handle.
+pub record SpellsDeltaEntry (before : Entry Handle) (bytes : List ℕ) (entry : Entry Handle) : Type 0 where
+  pub key_bytes : List ℕ
+  pub handle_bytes : List ℕ
+  pub spelled : bytes ≡ key_bytes ++ handle_bytes
+  pub key : SpellsDeltaKey before.key key_bytes entry.shared entry.key
+  pub value : SpellsDeltaValue entry.shared before.value handle_bytes entry.value
+
+-- the entry with another value
+abbrev pub with_value : {V W : Type 0} → Entry V → W → Entry W
+with_value entry value = record { place = entry.place; shared = entry.shared; key = entry.key; value = value }
 
 -- an entry whose value is one whole handle
-abbrev with_handle : Entry (List ℕ) → Result (Entry Handle) IndexFault
-with_handle entry = ok_or (option_map (λ handle. record { place = entry.place; shared = entry.shared; key = entry.key; value = handle }) (whole (handle_at entry.value))) BadHandle
+abbrev pub with_handle : Entry (List ℕ) → Result (Entry Handle) IndexFault
+with_handle entry = ok_or (option_map (with_value entry) (whole (handle_at entry.value))) BadHandle
 
 -- Without delta encoding the handles are read once the block has passed its tests.
 abbrev pub whole_handles : List ℕ → Result (List (Entry Handle)) IndexFault
 whole_handles block = do
   entries ← with_fault Block (block_entries block)
-  each with_handle entries
+  collected with_handle entries
+
+-- an index's entry: its key is the separator, and its value is the data block's handle
+abbrev pub index_entry : Entry Handle → IndexEntry
+index_entry entry = record { separator = entry.key; block = entry.value }
 
 -- the entries of an index block, or the first fault
 unfoldable pub index_entries : Bool → List ℕ → Result (List IndexEntry) IndexFault
 index_entries is_delta block = do
   entries ← if is_delta then delta_handles block else whole_handles block
-  Ok (map (λ entry. record { separator = entry.key; block = entry.value }) entries)
+  Ok (map index_entry entries)
+
+-- how an index's entry is spelled, with delta-encoded handles or with whole ones
+abbrev pub SpellsIndexEntry : Bool → Spelling Handle
+SpellsIndexEntry true before bytes entry = SpellsDeltaEntry before bytes entry
+SpellsIndexEntry false before bytes entry = SpellsEntryWith SpellsHandle before bytes entry
+
+-- The bytes are an index block of these entries.
+pub record IsIndex (is_delta : Bool) (block : List ℕ) (index : List IndexEntry) : Type 0 where
+  pub entries : List (Entry Handle)
+  pub are : IsBlock (SpellsIndexEntry is_delta) no_handle block entries
+  pub shown : index ≡ map index_entry entries
 
 -- a block of these entries with one restart, at 0
 one_restart : List ℕ → List ℕ

@@ -11,6 +11,7 @@ use Rattle.rk_bytes.specs.Model.Numbers.{little_endian}
 unfoldable pub crc_bit : ℕ → ℕ
 crc_bit register = if register % 2 == 1 then bit_xor (register / 2) 0x82F63B78 else register / 2
 
+-- the register after so many bits
 unfoldable pub crc_bits : ℕ → ℕ → ℕ
 crc_bits zero register = register
 crc_bits (suc n) register = crc_bits n (crc_bit register)
@@ -20,6 +21,7 @@ unfoldable pub crc_bytes : ℕ → List ℕ → ℕ
 crc_bytes register [] = register
 crc_bytes register (b ∷ bytes) = crc_bytes (crc_bits 8 (bit_xor register b)) bytes
 
+-- the CRC32C of bytes
 unfoldable pub crc32c : List ℕ → ℕ
 crc32c bytes = bit_xor (crc_bytes 0xFFFFFFFF bytes) 0xFFFFFFFF
 
@@ -44,48 +46,57 @@ pieces (suc n) size bytes = take size bytes ∷ pieces n size (drop size bytes)
 abbrev pub whole_pieces : ℕ → List ℕ → List (List ℕ)
 whole_pieces size bytes = pieces (length bytes / size) size bytes
 
+-- the bytes after all whole pieces
 abbrev pub after_pieces : ℕ → List ℕ → List ℕ
 after_pieces size bytes = drop (length bytes - length bytes % size) bytes
 
--- the lane of so many bytes at a place of a stripe
+-- the lane of so many bytes with this index in a stripe
 abbrev pub lane_at : ℕ → ℕ → List ℕ → ℕ
-lane_at size place stripe = little_endian (take size (drop (size * place) stripe))
+lane_at size index stripe = little_endian (take size (drop (size * index) stripe))
 
 -- exclusive-ored with itself, shifted right
 abbrev pub folded : ℕ → ℕ → ℕ
 folded shift hash = bit_xor hash (hash / 2 ^ shift)
 
--- the primes of XXH32
+-- the primes of XXH32: the first
 abbrev prime32_1 : ℕ
 prime32_1 = 0x9E3779B1
 
+-- the second prime
 abbrev prime32_2 : ℕ
 prime32_2 = 0x85EBCA77
 
+-- the third prime
 abbrev prime32_3 : ℕ
 prime32_3 = 0xC2B2AE3D
 
+-- the fourth prime
 abbrev prime32_4 : ℕ
 prime32_4 = 0x27D4EB2F
 
+-- the fifth prime
 abbrev prime32_5 : ℕ
 prime32_5 = 0x165667B1
 
+-- a sum of the stripes, with one lane more
 abbrev pub xxh32_round : ℕ → ℕ → ℕ
 xxh32_round sum lane = rotate_left w32 ((sum + lane * prime32_2) % 2 ^ 32) 13 * prime32_1 % 2 ^ 32
 
--- one of the four sums of the stripes: that of the lanes at one place
+-- one of the four sums of the stripes: that of the lanes with one index
 unfoldable pub xxh32_sum : ℕ → ℕ → List (List ℕ) → ℕ
-xxh32_sum place start stripes = fold (λ sum stripe. xxh32_round sum (lane_at 4 place stripe)) start stripes
+xxh32_sum index start stripes = fold (λ sum stripe. xxh32_round sum (lane_at 4 index stripe)) start stripes
 
+-- what the four sums of the stripes make together
 unfoldable pub xxh32_of_stripes : List (List ℕ) → ℕ
 xxh32_of_stripes stripes =
     (rotate_left w32 (xxh32_sum 0 ((prime32_1 + prime32_2) % 2 ^ 32) stripes) 1 + rotate_left w32 (xxh32_sum 1 prime32_2 stripes) 7
     + rotate_left w32 (xxh32_sum 2 0 stripes) 12 + rotate_left w32 (xxh32_sum 3 (2 ^ 32 - prime32_1) stripes) 18) % 2 ^ 32
 
+-- the hash, with a word of four bytes
 abbrev pub xxh32_with_word : ℕ → List ℕ → ℕ
 xxh32_with_word hash word = rotate_left w32 ((hash + little_endian word * prime32_3) % 2 ^ 32) 17 * prime32_4 % 2 ^ 32
 
+-- the hash, with a byte
 abbrev pub xxh32_with_byte : ℕ → ℕ → ℕ
 xxh32_with_byte hash byte = rotate_left w32 ((hash + byte * prime32_5) % 2 ^ 32) 11 * prime32_1 % 2 ^ 32
 
@@ -93,54 +104,67 @@ xxh32_with_byte hash byte = rotate_left w32 ((hash + byte * prime32_5) % 2 ^ 32)
 unfoldable pub xxh32_with_rest : ℕ → List ℕ → ℕ
 xxh32_with_rest hash rest = fold xxh32_with_byte (fold xxh32_with_word hash (whole_pieces 4 rest)) (after_pieces 4 rest)
 
+-- the hash, with its bits mixed at the end
 unfoldable pub xxh32_mixed : ℕ → ℕ
 xxh32_mixed hash = folded 16 (folded 13 (folded 15 hash * prime32_2 % 2 ^ 32) * prime32_3 % 2 ^ 32)
 
+-- the XXH32 of bytes
 unfoldable pub xxh32 : List ℕ → ℕ
 xxh32 bytes =
     let start = if nat_le 16 (length bytes) then xxh32_of_stripes (whole_pieces 16 bytes) else prime32_5 in
     xxh32_mixed (xxh32_with_rest ((start + length bytes) % 2 ^ 32) (after_pieces 16 bytes))
 
--- the primes of XXH64
+-- the primes of XXH64: the first
 abbrev prime64_1 : ℕ
 prime64_1 = 0x9E3779B185EBCA87
 
+-- the second prime
 abbrev prime64_2 : ℕ
 prime64_2 = 0xC2B2AE3D27D4EB4F
 
+-- the third prime
 abbrev prime64_3 : ℕ
 prime64_3 = 0x165667B19E3779F9
 
+-- the fourth prime
 abbrev prime64_4 : ℕ
 prime64_4 = 0x85EBCA77C2B2AE63
 
+-- the fifth prime
 abbrev prime64_5 : ℕ
 prime64_5 = 0x27D4EB2F165667C5
 
+-- a sum of the stripes, with one lane more
 abbrev pub xxh64_round : ℕ → ℕ → ℕ
 xxh64_round sum lane = rotate_left w64 ((sum + lane * prime64_2) % 2 ^ 64) 31 * prime64_1 % 2 ^ 64
 
+-- one of the four sums of the stripes: that of the lanes with one index
 unfoldable pub xxh64_sum : ℕ → ℕ → List (List ℕ) → ℕ
-xxh64_sum place start stripes = fold (λ sum stripe. xxh64_round sum (lane_at 8 place stripe)) start stripes
+xxh64_sum index start stripes = fold (λ sum stripe. xxh64_round sum (lane_at 8 index stripe)) start stripes
 
 -- the hash, with one of the four sums of the stripes
 abbrev pub xxh64_with_sum : ℕ → ℕ → ℕ
 xxh64_with_sum hash sum = (bit_xor hash (xxh64_round 0 sum) * prime64_1 + prime64_4) % 2 ^ 64
 
+-- what the four sums make together
 abbrev pub xxh64_of_sums : ℕ → ℕ → ℕ → ℕ → ℕ
 xxh64_of_sums a b c d =
     fold xxh64_with_sum ((rotate_left w64 a 1 + rotate_left w64 b 7 + rotate_left w64 c 12 + rotate_left w64 d 18) % 2 ^ 64) (a ∷ b ∷ c ∷ d ∷ [])
 
+-- what the four sums of the stripes make together
 unfoldable pub xxh64_of_stripes : List (List ℕ) → ℕ
 xxh64_of_stripes stripes =
     xxh64_of_sums (xxh64_sum 0 ((prime64_1 + prime64_2) % 2 ^ 64) stripes) (xxh64_sum 1 prime64_2 stripes) (xxh64_sum 2 0 stripes) (xxh64_sum 3 (2 ^ 64 - prime64_1) stripes)
 
+-- the hash, with a lane of eight bytes
 abbrev pub xxh64_with_lane : ℕ → List ℕ → ℕ
 xxh64_with_lane hash lane = (rotate_left w64 (bit_xor hash (xxh64_round 0 (little_endian lane))) 27 * prime64_1 + prime64_4) % 2 ^ 64
 
+-- the hash, with a word of four bytes
 abbrev pub xxh64_with_word : ℕ → List ℕ → ℕ
 xxh64_with_word hash word = (rotate_left w64 (bit_xor hash (little_endian word * prime64_1 % 2 ^ 64)) 23 * prime64_2 + prime64_3) % 2 ^ 64
 
+-- the hash, with a byte
 abbrev pub xxh64_with_byte : ℕ → ℕ → ℕ
 xxh64_with_byte hash byte = rotate_left w64 (bit_xor hash (byte * prime64_5 % 2 ^ 64)) 11 * prime64_1 % 2 ^ 64
 
@@ -150,9 +174,11 @@ xxh64_with_rest hash rest =
     let tail = after_pieces 8 rest in
     fold xxh64_with_byte (fold xxh64_with_word (fold xxh64_with_lane hash (whole_pieces 8 rest)) (whole_pieces 4 tail)) (after_pieces 4 tail)
 
+-- the hash, with its bits mixed at the end
 unfoldable pub xxh64_mixed : ℕ → ℕ
 xxh64_mixed hash = folded 32 (folded 29 (folded 33 hash * prime64_2 % 2 ^ 64) * prime64_3 % 2 ^ 64)
 
+-- the XXH64 of bytes
 unfoldable pub xxh64 : List ℕ → ℕ
 xxh64 bytes =
     let start = if nat_le 32 (length bytes) then xxh64_of_stripes (whole_pieces 32 bytes) else prime64_5 in

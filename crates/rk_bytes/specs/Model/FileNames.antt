@@ -15,18 +15,23 @@ use Rattle.rk_bytes.specs.declared.model.name.CurrentFault.TheVariants.{NoNewlin
 abbrev pub six_digits : ℕ → List ℕ
 six_digits n = replicate (6 - length (decimal n)) 48 ++ decimal n
 
+-- the file that names the manifest
 abbrev pub current_name : List ℕ
 current_name = codes "CURRENT"
 
+-- a manifest's name
 abbrev pub manifest_name : ℕ → List ℕ
 manifest_name n = codes "MANIFEST-" ++ six_digits n
 
+-- a log's name
 abbrev pub log_name : ℕ → List ℕ
 log_name n = six_digits n ++ codes ".log"
 
+-- a table's name
 abbrev pub table_name : ℕ → List ℕ
 table_name n = six_digits n ++ codes ".sst"
 
+-- a temporary file's name
 abbrev pub temp_name : ℕ → List ℕ
 temp_name n = six_digits n ++ codes ".dbtmp"
 
@@ -39,9 +44,20 @@ printed_name (Table n) = table_name n
 printed_name (Temp n) = temp_name n
 printed_name _ = []
 
+-- The name is printed: it is `CURRENT`, or that of a number below 2 ^ 64.
+abbrev pub IsPrinted : FileName → Type 0
+IsPrinted Current = Unit
+IsPrinted (Manifest n) = n < 2 ^ 64
+IsPrinted (Log n) = n < 2 ^ 64
+IsPrinted (Table n) = n < 2 ^ 64
+IsPrinted (Temp n) = n < 2 ^ 64
+IsPrinted _ = ⊥
+
 -- the number below 2 ^ 64 that these digits write, where its name is the text
 abbrev pub named_number : (ℕ → List ℕ) → List ℕ → List ℕ → Option ℕ
-named_number name number text = let n = digits_value 10 number in if nat_lt n (2 ^ 64) && bytes_eq (name n) text then Some n else None
+named_number name number text =
+    let n = digits_value 10 number in
+    if nat_lt n (2 ^ 64) && bytes_eq (name n) text then Some n else None
 
 -- the number of a manifest's name
 abbrev pub manifest_number : List ℕ → Option ℕ
@@ -51,25 +67,29 @@ manifest_number text = named_number manifest_name (drop 9 text) text
 abbrev pub number_with_ending : ℕ → (ℕ → List ℕ) → List ℕ → Option ℕ
 number_with_ending ending_len name text = named_number name (take (length text - ending_len) text) text
 
+-- what stands before the names of the files that repair moved away
 abbrev pub lost_prefix : List ℕ
 lost_prefix = codes "lost/"
 
+-- the name with a number that the text is
 abbrev pub numbered_name : List ℕ → Option FileName
 numbered_name text =
     option_or (option_map Manifest (manifest_number text))
     (option_or (option_map Log (number_with_ending 4 log_name text))
-    (option_or (option_map Table (number_with_ending 4 table_name text)) (option_map Temp (number_with_ending 6 temp_name text))))
+    (option_or (option_map Table (number_with_ending 4 table_name text))
+    (option_map Temp (number_with_ending 6 temp_name text))))
 
--- The name that the text is.
+-- the name that the text is
 unfoldable pub name_of : List ℕ → FileName
 name_of text =
     if starts_with nat_eq text lost_prefix then Lost
     else (if bytes_eq text current_name then Current else unwrap_or (numbered_name text) Other)
 
--- what CURRENT holds, and the number of the manifest that it names
+-- what CURRENT holds where it names the manifest with this number
 abbrev pub current_text : ℕ → List ℕ
 current_text n = manifest_name n ++ 10 ∷ []
 
+-- the number of the manifest that CURRENT names by this text
 unfoldable pub current_manifest : List ℕ → Result ℕ CurrentFault
 current_manifest text = do
   newline ← ok_or (position (λ b. b == 10) text) NoNewline

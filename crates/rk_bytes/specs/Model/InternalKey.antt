@@ -11,6 +11,7 @@ use Rattle.rk_bytes.specs.declared.model.key.KeyFault.{KeyFault}
 use Rattle.rk_bytes.specs.declared.model.key.KeyFault.TheVariants.{Short, UnsupportedKind, UnknownKind}
 use Rattle.rk_bytes.specs.Model.Numbers.{little_endian, fixed_of}
 
+-- a kind's number
 abbrev pub kind_number : Kind → ℕ
 kind_number Deletion = 0
 kind_number Value = 1
@@ -18,12 +19,15 @@ kind_number Merge = 2
 kind_number SingleDeletion = 7
 kind_number RangeDeletion = 15
 
+-- the kinds that are supported, each once
 abbrev pub all_kinds : List Kind
 all_kinds = Deletion ∷ Value ∷ Merge ∷ SingleDeletion ∷ RangeDeletion ∷ []
 
+-- the kind with this number
 abbrev pub kind_of : ℕ → Option Kind
 kind_of number = find (λ kind. kind_number kind == number) all_kinds
 
+-- the greatest sequence number
 abbrev pub top_sequence : ℕ
 top_sequence = 2 ^ 56 - 1
 
@@ -31,13 +35,15 @@ top_sequence = 2 ^ 56 - 1
 abbrev pub packed_of : ℕ → Kind → ℕ
 packed_of sequence kind = sequence * 256 + kind_number kind
 
+-- the internal key of a user key, a sequence number and a kind
 unfoldable pub internal_key : List ℕ → ℕ → Kind → List ℕ
 internal_key user sequence kind = user ++ fixed_of 8 (packed_of sequence kind)
 
--- the user key and the number after it, of a key of at least 8 bytes
+-- the user key of an internal key, which has at least 8 bytes
 abbrev pub user_key : List ℕ → List ℕ
 user_key key = take (length key - 8) key
 
+-- the number after the user key of an internal key
 abbrev pub packed : List ℕ → ℕ
 packed key = little_endian (drop (length key - 8) key)
 
@@ -49,6 +55,7 @@ bytewise_name = codes "leveldb.BytewiseComparator"
 abbrev pub key_cmp : List ℕ → List ℕ → Ordering
 key_cmp a b = ordering_then (slice_cmp nat_cmp (user_key a) (user_key b)) (nat_cmp (packed b) (packed a))
 
+-- what an internal key is made of
 pub record KeyParts : Type 0 where
   pub user : List ℕ
   pub sequence : ℕ
@@ -58,6 +65,7 @@ pub record KeyParts : Type 0 where
 abbrev pub kind_fault : ℕ → KeyFault
 kind_fault number = if nat_le 16 number && nat_le number 31 then UnsupportedKind number else UnknownKind number
 
+-- the parts of an internal key, or the first fault
 abbrev pub key_parts : List ℕ → Result KeyParts KeyFault
 key_parts key =
     let number = packed key % 256 in

@@ -14,7 +14,7 @@ use Rattle.rk_bytes.specs.declared.model.view.Cut.{Cut}
 use Rattle.rk_bytes.specs.declared.model.view.Tomb.{Tomb}
 use Rattle.rk_bytes.specs.declared.model.view.FamilyLine.{FamilyLine}
 use Rattle.rk_bytes.specs.Model.InternalKey.{internal_key, key_cmp}
-use Rattle.rk_bytes.specs.Model.Records.{Place, RecordMap, place_cmp, place_of}
+use Rattle.rk_bytes.specs.Model.Records.{Slot, RecordMap, slot_cmp, slot_of}
 
 -- What a directory is opened to: the live families in rising id, the record map, and the range deletions,
 -- each with the bounds that it is cut to.
@@ -200,15 +200,15 @@ unfolding of_default
 of_a_deletion = refl
 
 -- the records as they stand in a record map, and the state of these and of these range deletions
-placed : List Record → List (Place × Record)
-placed records = map (λ r. (place_of r, r)) records
+placed : List Record → List (Slot × Record)
+placed records = map (λ r. (slot_of r, r)) records
 
 state_of : List Record → List Tomb → State
 state_of records tombs = record { families = record { id = 0; name = codes "default"; log = 3; files = 1 } ∷ []; records = from_sorted (placed records); tombs = tombs }
 
 -- what is made of the values of such a record map
-of_values : {A : Type 0} (make : List Record → A) (records : List Record) → T (is_sorted place_cmp (placed records)) → make (values (from_sorted {R = place_cmp} (placed records))) ≡ make (map (λ (e : Place × Record). e.1) (placed records))
-of_values make records sorted = λ i. make (map (λ (e : Place × Record). e.1) (entries-from_sorted place_cmp (placed records) sorted i))
+of_values : {A : Type 0} (make : List Record → A) (records : List Record) → T (is_sorted slot_cmp (placed records)) → make (values (from_sorted {R = slot_cmp} (placed records))) ≡ make (map (λ (e : Slot × Record). e.1) (placed records))
+of_values make records sorted = λ i. make (map (λ (e : Slot × Record). e.1) (entries-from_sorted slot_cmp (placed records) sorted i))
 
 -- `a` is put twice, `b` is covered, `c` isn't and `d` is deleted
 four_keys : List Record
@@ -216,7 +216,7 @@ unfolding of_default
 four_keys = of_default (codes "a") 8 Value (codes "2") ∷ of_default (codes "a") 7 Value (codes "1") ∷ of_default (codes "b") 9 Value (codes "3") ∷ of_default (codes "c") 0 Value (codes "4") ∷ of_default (codes "d") 1 Deletion [] ∷ []
 
 of_four_keys : rows (state_of four_keys (cut_before_c ∷ [])) 0 None None ≡ record { key = codes "a"; answer = found (codes "2") } ∷ record { key = codes "c"; answer = found (codes "4") } ∷ []
-unfolding rows state_of placed four_keys of_default view_records cut_before_c covers internal_key place_cmp
+unfolding rows state_of placed four_keys of_default view_records cut_before_c covers internal_key slot_cmp
 of_four_keys = of_values (λ records. filter_map (λ key. row_of key (shown (deciding (uncovered (cut_before_c ∷ []) 0 key records)))) (filter (is_between None None) (keys_in records 0))) four_keys tt
 
 -- An empty lower bound leaves every key in, an empty upper one none.

@@ -1,74 +1,39 @@
--- What the program writes, and its status (this project's own rules).
-use Rattle.std.specs.Prelude.{◌≡◌, ℕ, ◌-◌, ◌^◌, ◌<◌, ◌&&◌, List, [], ◌∷◌, ◌++◌, length, map, flat_map, take, nat_lt, if◌then◌else◌, Option, Some, None, option_map, bytes_eq, codes, decimal, refl}
+-- What a command writes over a directory, and how it ends. All of it is this project's own rule.
+use Rattle.std.specs.Prelude.{◌≡◌, ℕ, ◌-◌, ◌^◌, min, sum, Bool, false, List, [], ◌∷◌, ◌++◌, length, map, flat_map, take, Option, Some, None, option_map, unwrap_or, ok_or, Result, Ok, Err, codes, refl}
 use Rattle.std.specs.Fmt.{digits}
-use Rattle.std.specs.Str.Parse.{digits_value}
-use Rattle.std.specs.FinMap.{get}
-use Rattle.rk_bytes.specs.declared.model.log.GapWhy.{GapWhy}
-use Rattle.rk_bytes.specs.declared.model.log.GapWhy.TheVariants.{Checksum, Length, UnknownType, MissingStart, MissingEnd, Mixed}
-use Rattle.rk_bytes.specs.declared.model.log.EndKind.{EndKind}
-use Rattle.rk_bytes.specs.declared.model.log.EndKind.TheVariants.{Clean, Torn, Stale, Unsupported}
+use Rattle.std.specs.FinMap.{get as file_named}
 use Rattle.rk_bytes.specs.declared.model.status.Status.{Status}
 use Rattle.rk_bytes.specs.declared.model.status.Status.TheVariants.{Done, Refused, Usage, DiskFault, SinkFault, Memory, NotFound}
+use Rattle.rk_bytes.specs.declared.model.command.How.{How}
+use Rattle.rk_bytes.specs.declared.model.command.How.TheVariants as how
+use Rattle.rk_bytes.specs.declared.model.command.SstPart.{SstPart}
+use Rattle.rk_bytes.specs.declared.model.command.SstPart.TheVariants as sst_part
+use Rattle.rk_bytes.specs.declared.model.manifest.Version.{Version}
+use Rattle.rk_bytes.specs.declared.model.open.OpenErr.{OpenErr}
+use Rattle.rk_bytes.specs.declared.model.open.OpenErr.TheVariants.{NoManifest}
+use Rattle.rk_bytes.specs.declared.model.salvage.SurveyErr.{SurveyErr}
+use Rattle.rk_bytes.specs.declared.model.salvage.Report.{Report}
+use Rattle.rk_bytes.specs.Model.Numbers.{◌>>=◌}
 use Rattle.rk_bytes.specs.Model.DiskImages.{Directory}
-use Rattle.rk_bytes.specs.Model.FileNames.{log_name}
+use Rattle.rk_bytes.specs.Model.FileNames.{log_name, table_name, manifest_name}
+use Rattle.rk_bytes.specs.Model.Checksums.{pieces}
 use Rattle.rk_bytes.specs.Model.LogMarks.{blocks_marks, block_len, log_marks}
-use Rattle.rk_bytes.specs.Model.LogItems.{Item, rec, gap, end, log_items}
-
-pub data Command : Type 0 where
-  dump_wal : ℕ → Command
-
--- The words are a spelling of the command.
-abbrev pub SpellsCommand : List (List ℕ) → Command → Type 0
-SpellsCommand words (dump_wal n) = (n < 2 ^ 64) × (words ≡ codes "dump_wal" ∷ decimal n ∷ [])
-
--- the number below 2 ^ 64 that the word is the decimal spelling of
-abbrev pub number_of : List ℕ → Option ℕ
-number_of word = let n = digits_value 10 word in if nat_lt n (2 ^ 64) && bytes_eq (decimal n) word then Some n else None
-
--- the command that the words spell
-abbrev pub command_of : List (List ℕ) → Option Command
-command_of (verb ∷ number ∷ []) = if bytes_eq verb (codes "dump_wal") then option_map dump_wal (number_of number) else None
-command_of _ = None
-
-abbrev pub line : List ℕ → List ℕ
-line text = text ++ 10 ∷ []
-
-abbrev pub why_word : GapWhy → List ℕ
-why_word Checksum = codes "Checksum"
-why_word Length = codes "Length"
-why_word UnknownType = codes "UnknownType"
-why_word MissingStart = codes "MissingStart"
-why_word MissingEnd = codes "MissingEnd"
-why_word Mixed = codes "Mixed"
-
-abbrev pub kind_words : EndKind → List ℕ
-kind_words Clean = codes "Clean"
-kind_words Torn = codes "Torn"
-kind_words Stale = codes "Stale"
-kind_words (Unsupported kind) = codes "Unsupported " ++ decimal kind
-
-abbrev pub item_line : Item → List ℕ
-item_line (rec payload place) = line (codes "record " ++ decimal place ++ codes " " ++ decimal (length payload))
-item_line (gap why place) = line (codes "gap " ++ decimal place ++ codes " " ++ why_word why)
-item_line (end kind place) = line (codes "end " ++ decimal place ++ codes " " ++ kind_words kind)
-
-abbrev pub usage_line : List ℕ
-usage_line = line (codes "usage: scan get families manifest_dump dump_wal check repair sst drill")
-
-abbrev pub no_log_line : ℕ → List ℕ
-no_log_line n = line (codes "refused: NoLog " ++ decimal n)
-
-abbrev pub disk_fault_line : List ℕ
-disk_fault_line = line (codes "fault: disk")
-
-abbrev pub memory_fault_line : List ℕ
-memory_fault_line = line (codes "fault: memory")
+use Rattle.rk_bytes.specs.Model.LogItems.{Item, rec, log_items}
+use Rattle.rk_bytes.specs.Model.TableStatus.{Good, table_status}
+use Rattle.rk_bytes.specs.Model.KeyView.{State, Answer, absent, answer, rows, family_named, record_count, key_count}
+use Rattle.rk_bytes.specs.Model.Opening.{Files, named_manifest, version_in, open_directory}
+use Rattle.rk_bytes.specs.Model.BestEfforts.{best_directory}
+use Rattle.rk_bytes.specs.Model.Salvage.{salvage_families, salvage_records, uncut_tombs, repair_report}
+use Rattle.rk_bytes.specs.Model.Drill.{drill_directory}
+use Rattle.rk_bytes.specs.Model.Grammar.{KeyWord, key_bytes, Command, scan, get, families, manifest_dump, dump_wal, check, repair, sst, drill, all_modes, command_of}
+use Rattle.rk_bytes.specs.Model.Lines.{line, item_line, batch_lines, edit_lines, family_line, row_line, answer_line, manifest_line, point_line, ok_line, count_words, mode_line, best_efforts_line, drill_line, moved_line, repaired_line, good_line, entry_line, range_line, property_line, table_fault_words, open_err_words, survey_err_words, no_log_words, no_table_words, no_family_words, refused_words, refusal_line, usage_line}
 
 -- lines, each with its newline, and the status
 pub record Output : Type 0 where
   pub lines : List (List ℕ)
   pub status : Status
 
+-- lines one after another, and the whole text of an output
 abbrev pub joined : List (List ℕ) → List ℕ
 joined lines = flat_map (λ bytes. bytes) lines
 
@@ -85,13 +50,141 @@ exit_status SinkFault = 4
 exit_status Memory = 5
 exit_status NotFound = 6
 
-abbrev pub dump_wal_output : ℕ → Option (List ℕ) → Output
-dump_wal_output n None = record { lines = no_log_line n ∷ []; status = Refused }
-dump_wal_output n (Some bytes) = record { lines = map item_line (log_items n bytes); status = Done }
+-- lines that answer a command, and the line that refuses it
+abbrev pub written : List (List ℕ) → Output
+written lines = record { lines = lines; status = Done }
 
-abbrev pub command_output : Option Command → Directory → Output
+abbrev pub refused : List ℕ → Output
+refused why = record { lines = refusal_line why ∷ []; status = Refused }
+
+-- what is written of what was found, or the refusal
+abbrev pub unless_refused : {A F : Type 0} → (F → List ℕ) → (A → Output) → Result A F → Output
+unless_refused words write (Ok one) = write one
+unless_refused words write (Err why) = refused (words why)
+
+-- the line of an item of a log and, of a record, the lines of its payload
+abbrev pub item_lines : List ℕ → (List ℕ → List (List ℕ)) → Item → List (List ℕ)
+item_lines word payload_lines (rec payload place) = item_line word (rec payload place) ∷ payload_lines payload
+item_lines word payload_lines item = item_line word item ∷ []
+
+-- `dump_wal`: the items of a log, with its batches
+abbrev pub dump_wal_output : ℕ → Bool → Option (List ℕ) → Output
+dump_wal_output n hex None = refused (no_log_words n)
+dump_wal_output n hex (Some bytes) = written (flat_map (item_lines (codes "record") (batch_lines hex)) (log_items n bytes))
+
+-- the bytes of the manifest that CURRENT names, and the version that it amounts to
+abbrev pub manifest_file : Files → Result (List ℕ) OpenErr
+manifest_file files = do
+  number ← named_manifest files
+  ok_or (files (manifest_name number)) (NoManifest number)
+
+abbrev pub manifest_version : Files → Result Version OpenErr
+manifest_version files = do
+  number ← named_manifest files
+  version_in files number
+
+-- `manifest_dump`: the items of the manifest, with its edits
+abbrev pub manifest_dump_output : Bool → Files → Output
+manifest_dump_output hex files = unless_refused open_err_words (λ bytes. written (flat_map (item_lines (codes "edit") (edit_lines hex)) (log_items 0 bytes))) (manifest_file files)
+
+-- `families`: the families of the last version
+abbrev pub families_output : Files → Output
+families_output files = unless_refused open_err_words (λ version. written (map family_line version.families)) (manifest_version files)
+
+-- what is asked of a good table
+abbrev pub table_lines : SstPart → Bool → Good → List (List ℕ)
+table_lines sst_part.Check hex good = good_line good.table ∷ []
+table_lines sst_part.Scan hex good = map (entry_line hex) good.records ++ map (range_line hex) good.table.ranges
+table_lines sst_part.Properties hex good = map (property_line hex) good.table.properties
+
+-- `sst`: one table
+abbrev pub sst_output : ℕ → SstPart → Bool → Option (List ℕ) → Output
+sst_output n part hex None = refused (no_table_words n)
+sst_output n part hex (Some bytes) = unless_refused (table_fault_words n) (λ good. written (table_lines part hex good)) (table_status bytes)
+
+-- the state that a directory is opened to
+abbrev pub state_of : How → Directory → Result State OpenErr
+state_of (how.Normal mode) d = do
+  opened ← open_directory mode d
+  Ok opened.state
+state_of how.Best d = do
+  best ← best_directory d
+  Ok best.state
+
+-- what is written of a live family, which is the default one where none is named
+abbrev pub of_family : Option (List ℕ) → (ℕ → Output) → State → Output
+of_family named write state =
+    let name = unwrap_or named (codes "default") in
+    elim (family_named state name) [ Some id ↦ write id | None ↦ refused (no_family_words name) ]
+
+-- `scan`: the rows of a family between two keys
+abbrev pub scan_output : Option (List ℕ) → Option KeyWord → Option KeyWord → Bool → Result State OpenErr → Output
+scan_output named from to hex opened =
+    unless_refused open_err_words (λ state. of_family named (λ id. written (map (row_line hex) (rows state id (option_map key_bytes from) (option_map key_bytes to)))) state) opened
+
+-- the status of the answer for one key
+abbrev pub answer_status : Answer → Status
+answer_status absent = NotFound
+answer_status _ = Done
+
+-- `get`: the answer for one key of a family
+abbrev pub get_output : KeyWord → Option (List ℕ) → Bool → Result State OpenErr → Output
+get_output key named hex opened = unless_refused open_err_words (λ state. of_family named (λ id.
+    let shown = answer state id (key_bytes key) in record { lines = answer_line hex shown ∷ []; status = answer_status shown }) state) opened
+
+-- the line of a state's counts, which are at most 2 ^ 64 - 1
+abbrev pub counts_line : State → List ℕ
+counts_line state = ok_line (length state.families) (min (sum (map (λ line. line.files) state.families)) (2 ^ 64 - 1)) (record_count state)
+
+-- `check`: what is opened, and by best efforts how far
+abbrev pub check_output : How → Directory → Output
+check_output (how.Normal mode) d = unless_refused open_err_words (λ opened. written (counts_line opened.state ∷ [])) (open_directory mode d)
+check_output how.Best d =
+    unless_refused open_err_words (λ best. written (manifest_line best.manifest best.units ∷ map point_line best.points ++ counts_line best.state ∷ [])) (best_directory d)
+
+-- `repair`: what is moved, and its counts
+abbrev pub repair_output : Result Report SurveyErr → Output
+repair_output answered = unless_refused survey_err_words (λ report. written (map moved_line report.moved ++ repaired_line report ∷ [])) answered
+
+-- The salvage of a directory as a state, of which records and keys are counted: its families have no log
+-- number and no file.
+abbrev pub salvage_state : Directory → State
+salvage_state d = record {
+  families = map (λ family. record { id = family.id; name = family.name; log = 0; files = 0 }) (salvage_families d);
+  records = salvage_records d;
+  tombs = uncut_tombs d;
+}
+
+-- how many records and keys a state has, or why there is none
+abbrev pub state_counts : State → List ℕ
+state_counts state = count_words (record_count state) (key_count state)
+
+abbrev pub opened_counts : Result State OpenErr → List ℕ
+opened_counts (Ok state) = state_counts state
+opened_counts (Err why) = refused_words (open_err_words why)
+
+-- the last line of a repair
+abbrev pub repair_line : Result Report SurveyErr → List ℕ
+repair_line (Ok report) = repaired_line report
+repair_line (Err why) = refusal_line (survey_err_words why)
+
+-- `drill`: what a directory is opened to in each mode and by best efforts, then after a repair in each mode
+abbrev pub drill_output : ℕ → Directory → Output
+drill_output n d = written (drill_line n ∷ map (λ mode. mode_line mode (opened_counts (state_of (how.Normal mode) d))) all_modes
+    ++ best_efforts_line (opened_counts (state_of how.Best d)) ∷ repair_line (repair_report d) ∷ map (λ mode. mode_line mode (state_counts (salvage_state d))) all_modes)
+
+-- what a command writes over a directory, or the usage line where there is no command
+unfoldable pub command_output : Option Command → Directory → Output
 command_output None d = record { lines = usage_line ∷ []; status = Usage }
-command_output (Some (dump_wal n)) d = dump_wal_output n (get d (log_name n))
+command_output (Some (scan named opening from to hex)) d = scan_output named from to hex (state_of opening d)
+command_output (Some (get key named opening hex)) d = get_output key named hex (state_of opening d)
+command_output (Some families) d = families_output (file_named d)
+command_output (Some (manifest_dump hex)) d = manifest_dump_output hex (file_named d)
+command_output (Some (dump_wal n hex)) d = dump_wal_output n hex (file_named d (log_name n))
+command_output (Some (check opening)) d = check_output opening d
+command_output (Some repair) d = repair_output (repair_report d)
+command_output (Some (sst n part hex)) d = sst_output n part hex (file_named d (table_name n))
+command_output (Some (drill n)) d = drill_output n (drill_directory n)
 
 -- what the program writes for these words over the directory
 abbrev pub output : List (List ℕ) → Directory → Output
@@ -109,26 +202,10 @@ TookLines before after lines bytes = (n : ℕ) × Took before after (joined (tak
 abbrev pub TookFront : Option (List ℕ) → Option (List ℕ) → List ℕ → Type 0
 TookFront before after bytes = (n : ℕ) × Took before after (take n bytes)
 
-of_an_unsupported_end : item_line (end (Unsupported 5) 40) ≡ line (codes "end 40 Unsupported 5")
-unfolding digits
-of_an_unsupported_end = refl
-
-of_an_empty_log : dump_wal_output 3 (Some []) ≡ record { lines = line (codes "end 0 Clean") ∷ []; status = Done }
-unfolding log_marks blocks_marks block_len digits
+of_an_empty_log : dump_wal_output 3 false (Some []) ≡ record { lines = line (codes "end 0 Clean") ∷ []; status = Done }
+unfolding log_marks pieces blocks_marks block_len digits
 of_an_empty_log = refl
 
-of_no_log : dump_wal_output 3 None ≡ record { lines = line (codes "refused: NoLog 3") ∷ []; status = Refused }
+of_no_log : dump_wal_output 3 false None ≡ record { lines = line (codes "refused: NoLog 3") ∷ []; status = Refused }
 unfolding digits
 of_no_log = refl
-
-another_spelling : command_of (codes "dump_wal" ∷ codes "03" ∷ []) ≡ None
-unfolding digits
-another_spelling = refl
-
-greatest_number : command_of (codes "dump_wal" ∷ codes "18446744073709551615" ∷ []) ≡ Some (dump_wal (2 ^ 64 - 1))
-unfolding digits
-greatest_number = refl
-
-too_great_a_number : command_of (codes "dump_wal" ∷ codes "18446744073709551616" ∷ []) ≡ None
-unfolding digits
-too_great_a_number = refl

@@ -21,8 +21,8 @@ use Rattle.rk_bytes.specs.declared.model.wal.WalErr.{WalErr}
 use Rattle.rk_bytes.specs.declared.model.wal.WalErr.TheVariants.{Corrupt, FamilyAhead, UnsupportedLog}
 use Rattle.rk_bytes.specs.declared.model.key.Kind.TheVariants.{Value}
 use Rattle.rk_bytes.specs.Model.Numbers.{fixed_of, prefixed_of, in_turn}
-use Rattle.rk_bytes.specs.Model.Checksums.{crc_bit, crc_bits, crc_bytes, crc32c}
-use Rattle.rk_bytes.specs.Model.LogMarks.{found, block_len, block_marks, blocks_marks, log_marks}
+use Rattle.rk_bytes.specs.Model.Checksums.{pieces, crc_bit, crc_bits, crc_bytes, crc32c}
+use Rattle.rk_bytes.specs.Model.LogMarks.{found, block_len, marks_from, fragment_found, blocks_marks, log_marks}
 use Rattle.rk_bytes.specs.Model.LogItems.{Item, rec, gap, end, log_items}
 use Rattle.rk_bytes.specs.Model.WriteBatch.{Batch, changes, change_count, batch_of}
 use Rattle.rk_bytes.specs.Model.Manifest.{has_id}
@@ -204,7 +204,7 @@ two_families log = record {
 
 -- what is replayed, computed, and the same in the four modes
 replay_in : Mode → Version → List Log → Result Replayed WalErr
-unfolding replay log_marks blocks_marks block_marks found block_len crc32c crc_bytes crc_bits crc_bit batch_of in_turn
+unfolding replay log_marks blocks_marks marks_from fragment_found pieces found block_len crc32c crc_bytes crc_bits crc_bit batch_of in_turn
 replay_in mode version logs = replay mode version logs
 
 replays : Version → List Log → List (Result Replayed WalErr)

@@ -1,7 +1,7 @@
 -- Where the parts of a table are found: its footer, and the blocks of its handles with their trailers
 -- (RocksDB's wiki, "Rocksdb BlockBasedTable Format"; table/format.cc). The order of the tests is this
 -- project's own rule.
-use Rattle.std.specs.Prelude.{◌≡◌, ℕ, ◌+◌, ◌-◌, ◌==◌, Bool, true, not, ◌||◌, List, [], ◌∷◌, ◌++◌, length, take, drop, replicate, slice_index, nat_lt, if◌then◌else◌, Result, Ok, Err, refl}
+use Rattle.std.specs.Prelude.{◌≡◌, ℕ, ◌+◌, ◌-◌, ◌==◌, Bool, true, not, ◌||◌, List, [], ◌∷◌, ◌++◌, length, take, drop, replicate, slice_index, nat_lt, nat_le, ◌^◌, if◌then◌else◌, Result, Ok, Err, refl}
 use Rattle.rk_bytes.specs.declared.model.block.Handle.{Handle}
 use Rattle.rk_bytes.specs.declared.model.table.SumKind.{SumKind}
 use Rattle.rk_bytes.specs.declared.model.table.SumKind.TheVariants.{NoSum, Crc32c, Xxh32, Xxh64}
@@ -22,9 +22,11 @@ sum_kind n =
     else (if n == 2 then Ok Xxh32
     else (if n == 3 then Ok Xxh64 else Err (UnsupportedChecksum n))))
 
+-- the magic number of a legacy footer
 abbrev legacy_magic : ℕ
 legacy_magic = 0xdb4775248b80fb57
 
+-- the magic number of a newer footer
 abbrev pub newer_magic : ℕ
 newer_magic = 0x88e241b785f4cff7
 
@@ -32,9 +34,11 @@ newer_magic = 0x88e241b785f4cff7
 abbrev pub magic_of : List ℕ → ℕ
 magic_of table = little_endian (drop (length table - 8) table)
 
+-- how many bytes the footer has
 abbrev pub footer_len : List ℕ → ℕ
 footer_len table = if magic_of table == newer_magic then 53 else 48
 
+-- the place of the footer
 abbrev pub footer_start : List ℕ → ℕ
 footer_start table = length table - footer_len table
 
@@ -72,13 +76,15 @@ abbrev has_sum : SumKind → ℕ → List ℕ → ℕ → Bool
 has_sum NoSum stored block type_byte = true
 has_sum sum stored block type_byte = stored == block_sum sum block type_byte
 
--- The block of a handle, within the bytes that hold it. The type byte and four bytes of its sum follow it.
+-- The block of a handle, within the bytes that hold it. The type byte and four bytes of its sum follow it. No
+-- file has bytes past 2 ^ 64 - 1.
 unfoldable pub checked_block : List ℕ → Handle → SumKind → Result (List ℕ) TrailerFault
 checked_block bytes handle sum =
+    let end = handle.offset + handle.size + 5 in
     let block = take handle.size (drop handle.offset bytes) in
     let trailer = drop (handle.offset + handle.size) bytes in
     let type_byte = slice_index trailer 0 in
-    if nat_lt (length bytes) (handle.offset + handle.size + 5) then Err OutOfFile
+    if nat_le (2 ^ 64) end || nat_lt (length bytes) end then Err OutOfFile
     else (if not (has_sum sum (little_endian (take 4 (drop 1 trailer))) block type_byte) then Err Checksum
     else (if type_byte == 0 then Ok block else Err (Compressed type_byte)))
 

@@ -15,11 +15,11 @@ use Rattle.rk_bytes.specs.declared.model.table.FooterFault.TheVariants.{FooterSh
 use Rattle.rk_bytes.specs.declared.model.table.TrailerFault.{TrailerFault}
 use Rattle.rk_bytes.specs.declared.model.table.TrailerFault.TheVariants.{OutOfFile, Checksum, Compressed}
 use Rattle.rk_bytes.specs.declared.model.block.BlockFault.{BlockFault}
-use Rattle.rk_bytes.specs.declared.model.block.BlockFault.TheVariants.{HashIndex}
+use Rattle.rk_bytes.specs.declared.model.block.BlockFault.TheVariants.{Short, HashIndex, BadRestarts, BadEntry}
 use Rattle.rk_bytes.specs.declared.model.block.IndexFault.{IndexFault}
-use Rattle.rk_bytes.specs.declared.model.block.IndexFault.TheVariants.{Block}
+use Rattle.rk_bytes.specs.declared.model.block.IndexFault.TheVariants.{Block, BadHandle, Memory}
 use Rattle.rk_bytes.specs.declared.model.block.RangeFault.{RangeFault}
-use Rattle.rk_bytes.specs.declared.model.block.RangeFault.TheVariants.{Block, BadKey}
+use Rattle.rk_bytes.specs.declared.model.block.RangeFault.TheVariants.{Block, BadKey, Memory}
 use Rattle.rk_bytes.specs.declared.model.key.Kind.{Kind}
 use Rattle.rk_bytes.specs.declared.model.key.Kind.TheVariants.{Value, RangeDeletion}
 use Rattle.rk_bytes.specs.declared.model.key.KeyFault.{KeyFault}
@@ -35,7 +35,7 @@ use Rattle.rk_bytes.specs.declared.model.table.TableWhat.{TableWhat}
 use Rattle.rk_bytes.specs.declared.model.table.TableWhat.TheVariants.{Version, Checksum, Compressed, Comparator, IndexType, External, HashIndex, RecordKind}
 use Rattle.rk_bytes.specs.Model.Numbers.{Read, ◌>>=◌, fixed_at, varint_at, varint64_at}
 use Rattle.rk_bytes.specs.Model.Checksums.{crc_bit, crc_bits, crc_bytes, crc32c}
-use Rattle.rk_bytes.specs.Model.BlockEntries.{Entry, with_fault, each, whole, block_entries, entries_after, whole_handles, index_entries}
+use Rattle.rk_bytes.specs.Model.BlockEntries.{Entry, with_fault, collected, whole, block_entries, entries_after, whole_handles, index_entries}
 use Rattle.rk_bytes.specs.Model.TableFooter.{footer_of, footer_start, checked_block}
 use Rattle.rk_bytes.specs.Model.InternalKey.{KeyParts, user_key, key_parts, internal_key, key_cmp, top_sequence, bytewise_name}
 
@@ -44,6 +44,7 @@ pub data TableFault : Type 0 where
   damaged : TableWhy → ℕ → TableFault
   unsupported : TableWhat → TableFault
 
+-- a footer's fault, at the footer's place
 abbrev pub footer_status : ℕ → FooterFault → TableFault
 footer_status place FooterShort = damaged FooterShort place
 footer_status place BadMagic = damaged BadMagic place
@@ -51,23 +52,30 @@ footer_status place (UnsupportedVersion version) = unsupported (Version version)
 footer_status place (UnsupportedChecksum kind) = unsupported (Checksum kind)
 footer_status place BadHandle = damaged BadHandle place
 
+-- the fault of a block's trailer, at the block's place
 abbrev pub trailer_status : ℕ → TrailerFault → TableFault
 trailer_status place OutOfFile = damaged OutOfFile place
 trailer_status place Checksum = damaged Checksum place
 trailer_status place (Compressed kind) = unsupported (Compressed kind)
 
+-- the fault of a block's entries, at the block's place
 abbrev pub block_status : ℕ → BlockFault → TableFault
 block_status place HashIndex = unsupported HashIndex
-block_status place _ = damaged Block place
+block_status place Short = damaged Block place
+block_status place BadRestarts = damaged Block place
+block_status place (BadEntry at) = damaged Block place
 
--- A definition gives no `Memory`, so the last case is that of `BadHandle`, and below that of `BadKey`.
+-- The fault of a block whose values are handles. No definition gives `Memory`, here and below.
 abbrev pub index_status : ℕ → IndexFault → TableFault
 index_status place (Block fault) = block_status place fault
-index_status place _ = damaged BadHandle place
+index_status place BadHandle = damaged BadHandle place
+index_status place Memory = damaged BadHandle place
 
+-- the fault of a block of range deletions
 abbrev pub range_status : ℕ → RangeFault → TableFault
 range_status place (Block fault) = block_status place fault
-range_status place _ = damaged BadKey place
+range_status place BadKey = damaged BadKey place
+range_status place Memory = damaged BadKey place
 
 -- What reads a table's block.
 abbrev pub BlockReader : Type 0
@@ -75,7 +83,8 @@ BlockReader = Handle → Result (List ℕ) TableFault
 
 -- reads the blocks before the footer
 abbrev pub reader_of : List ℕ → Footer → BlockReader
-reader_of table footer handle = with_fault (trailer_status handle.offset) (checked_block (take footer.start table) handle footer.sum)
+reader_of table footer handle =
+    with_fault (trailer_status handle.offset) (checked_block (take footer.start table) handle footer.sum)
 
 -- what a block holds; a fault has the block's offset as place
 abbrev pub held : {A F : Type 0} → BlockReader → (ℕ → F → TableFault) → (List ℕ → Result A F) → Handle → Result A TableFault
@@ -108,41 +117,64 @@ number_in read None = Some 0
 number_in read (Some value) = whole (read value)
 
 -- The numbers of properties: 0 where the property is absent, and nothing where its value hasn't the form.
+-- The type of the index is a fixed32.
 abbrev pub index_type : List Property → Option ℕ
 index_type properties = number_in (fixed_at 4) (value_named (codes "rocksdb.block.based.table.index.type") properties)
 
+-- the id of the family is a varint of 32 bits, in at most 10 bytes
 abbrev pub family_id : List Property → Option ℕ
 family_id properties = number_in (varint_at 10 32) (value_named (codes "rocksdb.column.family.id") properties)
 
+-- whether separators are user keys
 abbrev pub user_separators : List Property → Option ℕ
 user_separators properties = number_in varint64_at (value_named (codes "rocksdb.index.key.is.user.key") properties)
 
+-- whether the index's handles are delta-encoded
 abbrev pub delta_values : List Property → Option ℕ
 delta_values properties = number_in varint64_at (value_named (codes "rocksdb.index.value.is.delta.encoded") properties)
 
+-- the stated number of entries, which nothing else looks at
 abbrev pub stated_entries : List Property → Option ℕ
 stated_entries properties = number_in varint64_at (value_named (codes "rocksdb.num.entries") properties)
 
+-- each of these numbers has its form
 abbrev pub have_forms : List Property → Bool
-have_forms properties = list_all is_some (index_type properties ∷ family_id properties ∷ user_separators properties ∷ delta_values properties ∷ stated_entries properties ∷ [])
+have_forms properties =
+    list_all is_some (
+    index_type properties ∷ family_id properties ∷ user_separators properties ∷ delta_values properties
+    ∷ stated_entries properties ∷ [])
 
 -- the property is there and isn't 0
 abbrev pub is_set : Option ℕ → Bool
 is_set number = nat_lt 0 (unwrap_or number 0)
 
+-- the comparator is absent, or the bytewise one
 abbrev pub is_bytewise : Option (List ℕ) → Bool
 is_bytewise None = true
 is_bytewise (Some name) = bytes_eq name bytewise_name
+
+-- what isn't supported of a table with these properties, if anything
+abbrev pub unsupported_by : List Property → Option TableWhat
+unsupported_by properties =
+    if not (is_bytewise (value_named (codes "rocksdb.comparator") properties)) then Some Comparator
+    else (if is_set (index_type properties) then Some (IndexType (unwrap_or (index_type properties) 0))
+    else (if is_some (value_named (codes "rocksdb.external_sst_file.version") properties) then Some External
+    else None))
+
+-- the properties, or their fault at the place of their block
+abbrev pub tested_properties : ℕ → List Property → Result (List Property) TableFault
+tested_properties place properties =
+    if not (have_forms properties) then Err (damaged BadProperty place)
+    else elim (unsupported_by properties) [
+      | Some what ↦ Err (unsupported what)
+      | None ↦ Ok properties
+    ]
 
 -- the properties in the block of this handle, of a table that is supported
 abbrev pub properties_at : BlockReader → Handle → Result (List Property) TableFault
 properties_at block_of handle = do
   properties ← held block_of block_status property_list handle
-  if not (have_forms properties) then Err (damaged BadProperty handle.offset)
-      else (if not (is_bytewise (value_named (codes "rocksdb.comparator") properties)) then Err (unsupported Comparator)
-      else (if is_set (index_type properties) then Err (unsupported (IndexType (unwrap_or (index_type properties) 0)))
-      else (if is_some (value_named (codes "rocksdb.external_sst_file.version") properties) then Err (unsupported External)
-      else Ok properties)))
+  tested_properties handle.offset properties
 
 -- The family that a table belongs to. The greatest id of 31 bits stands for none, and so for family 0.
 abbrev pub family_of : List Property → ℕ
@@ -152,9 +184,12 @@ family_of properties = let id = unwrap_or (family_id properties) 0 in if id == 2
 abbrev pub unnamed : ℕ → List ℕ
 unnamed id = if id == 0 then codes "default" else codes "family-" ++ decimal id
 
+-- the name of the family that a table belongs to
 abbrev pub family_name_of : List Property → List ℕ
-family_name_of properties = unwrap_or (value_named (codes "rocksdb.column.family.name") properties) (unnamed (family_of properties))
+family_name_of properties =
+    unwrap_or (value_named (codes "rocksdb.column.family.name") properties) (unnamed (family_of properties))
 
+-- the kind is that of a range deletion
 abbrev pub is_range_deletion : Kind → Bool
 is_range_deletion RangeDeletion = true
 is_range_deletion _ = false
@@ -162,13 +197,15 @@ is_range_deletion _ = false
 -- the range deletion of an entry, whose key is the start's internal key and whose value is the end
 abbrev pub range_of : Entry (List ℕ) → Result KeyParts KeyFault → Result RangeDel RangeFault
 range_of entry (Err fault) = Err BadKey
-range_of entry (Ok parts) = if is_range_deletion parts.kind then Ok (record { start = parts.user; end = entry.value; sequence = parts.sequence }) else Err BadKey
+range_of entry (Ok parts) =
+    if is_range_deletion parts.kind then Ok (record { start = parts.user; end = entry.value; sequence = parts.sequence })
+    else Err BadKey
 
 -- the range deletions in their block, in any order
 unfoldable pub range_list : List ℕ → Result (List RangeDel) RangeFault
 range_list block = do
   entries ← with_fault Block (block_entries block)
-  each (λ entry. range_of entry (key_parts entry.key)) entries
+  collected (λ entry. range_of entry (key_parts entry.key)) entries
 
 -- the index, of which separators that are internal keys have 8 bytes at least
 abbrev pub index_at : BlockReader → List Property → Handle → Result (List IndexEntry) TableFault
@@ -205,6 +242,7 @@ records_after place before (entry ∷ entries) = do
   more ← records_after place (Some entry.key) entries
   Ok (first ∷ more)
 
+-- the internal key of the last of these records
 abbrev pub last_key : List DataEntry → Option (List ℕ)
 last_key entries = last_or None (map (λ entry. entry.key) entries)
 
@@ -217,14 +255,16 @@ separator_cmp false key separator = key_cmp key separator
 abbrev pub are_separated : Bool → Option (List ℕ) → List ℕ → List DataEntry → Bool
 are_separated by_user lower upper [] = false
 are_separated by_user lower upper (first ∷ more) =
-    is_above (separator_cmp by_user) first.key lower && not (is_above (separator_cmp by_user) (unwrap_or (last_key more) first.key) (Some upper))
+    let last = unwrap_or (last_key more) first.key in
+    is_above (separator_cmp by_user) first.key lower && not (is_gt (separator_cmp by_user last upper))
 
 -- the records of one data block, after the key and the separator before it
 abbrev pub data_block : BlockReader → Bool → Option (List ℕ) → Option (List ℕ) → IndexEntry → Result (List DataEntry) TableFault
 data_block block_of by_user before lower at = do
   entries ← held block_of block_status block_entries at.block
   records ← records_after at.block.offset before entries
-  if are_separated by_user lower at.separator records then Ok records else Err (damaged BadSeparator at.block.offset)
+  if are_separated by_user lower at.separator records then Ok records
+      else Err (damaged BadSeparator at.block.offset)
 
 -- the records of the data blocks, joined in the index's order
 abbrev pub data_records : BlockReader → Bool → Option (List ℕ) → Option (List ℕ) → List IndexEntry → Result (List DataEntry) TableFault
@@ -234,19 +274,24 @@ data_records block_of by_user before lower (at ∷ index) = do
   more ← data_records block_of by_user (last_key records) (Some at.separator) index
   Ok (records ++ more)
 
-abbrev record_in : ℕ → DataEntry → Record
-record_in family entry = record { family = family; key = entry.parts.user; sequence = entry.parts.sequence; kind = entry.parts.kind; value = entry.value }
+-- a data record as a record of its family
+abbrev pub record_in : ℕ → DataEntry → Record
+record_in family entry = let parts = entry.parts in
+    record { family = family; key = parts.user; sequence = parts.sequence; kind = parts.kind; value = entry.value }
 
--- the internal keys at a range deletion's ends
+-- the internal key at a range deletion's start
 abbrev pub start_key : RangeDel → List ℕ
 start_key range = internal_key range.start range.sequence RangeDeletion
 
+-- the internal key at a range deletion's end, before each record of that user key
 abbrev pub end_key : RangeDel → List ℕ
 end_key range = internal_key range.end top_sequence RangeDeletion
 
+-- the lesser of two internal keys
 abbrev lesser : List ℕ → List ℕ → List ℕ
 lesser a b = if is_gt (key_cmp a b) then b else a
 
+-- the greater of two internal keys
 abbrev pub greater : List ℕ → List ℕ → List ℕ
 greater a b = if is_lt (key_cmp a b) then b else a
 
@@ -255,6 +300,7 @@ pub record Good : Type 0 where
   pub table : TableRef
   pub records : List Record
 
+-- a table with this footer that holds these properties, range deletions, index entries and records
 abbrev pub good : Footer → List Property → List RangeDel → List IndexEntry → List DataEntry → Good
 good footer properties ranges index entries =
     let keys = map (λ entry. entry.key) entries in
@@ -276,15 +322,27 @@ good footer properties ranges index entries =
       records = map (record_in (family_of properties)) entries;
     }
 
--- what a table with this footer holds, or the first fault
-unfoldable pub table_with : BlockReader → Footer → Result Good TableFault
-table_with block_of footer = do
+-- What a table says beside its data blocks.
+pub record TableHead : Type 0 where
+  pub properties : List Property
+  pub ranges : List RangeDel
+  pub index : List IndexEntry
+
+-- what stands beside the data blocks of a table with this footer, or the first fault
+abbrev pub head_with : BlockReader → Footer → Result TableHead TableFault
+head_with block_of footer = do
   metas ← held block_of index_status whole_handles footer.metaindex
   properties ← list_of (properties_at block_of) (handle_named (codes "rocksdb.properties") metas)
   ranges ← list_of (held block_of range_status range_list) (handle_named (codes "rocksdb.range_del") metas)
   index ← index_at block_of properties footer.index
-  entries ← data_records block_of (is_set (user_separators properties)) None None index
-  Ok (good footer properties ranges index entries)
+  Ok (record { properties = properties; ranges = ranges; index = index })
+
+-- what a table with this footer holds, or the first fault
+unfoldable pub table_with : BlockReader → Footer → Result Good TableFault
+table_with block_of footer = do
+  head ← head_with block_of footer
+  entries ← data_records block_of (is_set (user_separators head.properties)) None None head.index
+  Ok (good footer head.properties head.ranges head.index entries)
 
 -- the status of a table: good, or the first fault
 unfoldable pub table_status : List ℕ → Result Good TableFault

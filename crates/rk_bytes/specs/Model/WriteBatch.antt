@@ -16,18 +16,20 @@ pub data Part : Type 0 where
   log_bytes : ℕ → List ℕ → Part
   noop : ℕ → Part
 
+-- the record that a part is, if it is a change
 abbrev pub change_in : Part → Option Record
 change_in (change place r) = Some r
 change_in _ = None
 
--- the records of the parts, and how many they are
+-- the records of the parts
 abbrev pub changes : List Part → List Record
 changes parts = filter_map change_in parts
 
+-- how many changes the parts are
 abbrev pub change_count : List Part → ℕ
 change_count parts = length (changes parts)
 
--- the tag of a change in the default family, and the one that a family's id follows
+-- the tag of a change in the default family
 abbrev pub plain_tag : Kind → ℕ
 plain_tag Deletion = 0x0
 plain_tag Value = 0x1
@@ -35,6 +37,7 @@ plain_tag Merge = 0x2
 plain_tag SingleDeletion = 0x7
 plain_tag RangeDeletion = 0xF
 
+-- the tag of a change that a family's id follows
 abbrev pub family_tag : Kind → ℕ
 family_tag Deletion = 0x4
 family_tag Value = 0x5
@@ -42,19 +45,23 @@ family_tag Merge = 0x6
 family_tag SingleDeletion = 0x8
 family_tag RangeDeletion = 0xE
 
+-- the kind that has this tag among its two
 abbrev pub kind_of_tag : ℕ → Option Kind
 kind_of_tag tag = find (λ kind. plain_tag kind == tag || family_tag kind == tag) all_kinds
 
+-- a family's id follows the tag
 abbrev pub names_family : ℕ → Bool
 names_family tag = list_any (λ kind. family_tag kind == tag) all_kinds
 
 -- prepared transactions (0x9 to 0xC), and blob files, wide columns and what came later (0x10 to 0x1F)
-abbrev pub is_unsupported_tag : ℕ → Bool
-is_unsupported_tag tag = nat_le 0x9 tag && nat_le tag 0xC || nat_le 0x10 tag && nat_le tag 0x1F
+abbrev pub is_unsupported_batch_tag : ℕ → Bool
+is_unsupported_batch_tag tag = nat_le 0x9 tag && nat_le tag 0xC || nat_le 0x10 tag && nat_le tag 0x1F
 
+-- the family of a change, after its tag
 abbrev pub family_at : ℕ → List ℕ → Read ℕ
 family_at tag bytes = if names_family tag then varint32_at bytes else Ok (0, bytes)
 
+-- the value of a change of this kind, after its key: empty for a deletion
 abbrev pub value_at : Kind → List ℕ → Read (List ℕ)
 value_at Deletion bytes = Ok ([], bytes)
 value_at SingleDeletion bytes = Ok ([], bytes)
@@ -68,6 +75,7 @@ change_at place sequence tag kind bytes = do
   value ← value_at kind key.1
   Ok (change place (record { family = family.0; key = key.0; sequence = sequence; kind = kind; value = value.0 }), value.1)
 
+-- the slice of bytes for the log alone, after its tag
 abbrev pub log_bytes_at : ℕ → List ℕ → Read Part
 log_bytes_at place bytes = do
   slice ← prefixed_at bytes
@@ -78,7 +86,7 @@ abbrev pub part_of_tag : ℕ → ℕ → ℕ → List ℕ → Result (Part × Li
 part_of_tag place sequence tag bytes =
     if tag == 0x3 then reads_or (BadRecord place) (log_bytes_at place bytes)
     else (if tag == 0xD then Ok (noop place, bytes)
-    else (if is_unsupported_tag tag then Err (UnsupportedTag tag)
+    else (if is_unsupported_batch_tag tag then Err (UnsupportedTag tag)
     else elim (kind_of_tag tag) [
       | Some kind ↦ reads_or (BadRecord place) (change_at place sequence tag kind bytes)
       | None ↦ Err (BadRecord place)
@@ -86,42 +94,53 @@ part_of_tag place sequence tag bytes =
 
 -- The part at the front of a batch's last bytes. A change's sequence number is the batch's and the number
 -- of changes before it.
-abbrev pub part_at : ℕ → ℕ → List Part → List ℕ → Result (Part × List ℕ) BatchFault
-part_at batch_len sequence before bytes =
+abbrev pub batch_part_at : ℕ → ℕ → List Part → List ℕ → Result (Part × List ℕ) BatchFault
+batch_part_at batch_len sequence before bytes =
     part_of_tag (batch_len - length bytes) (sequence + change_count before) (slice_index bytes 0) (drop 1 bytes)
 
--- the batch's sequence number, and its count of changes as stated
+-- the batch's sequence number
 abbrev pub batch_sequence : List ℕ → ℕ
 batch_sequence bytes = little_endian (take 8 bytes)
 
+-- the count of changes that the batch states
 abbrev pub stated_count : List ℕ → ℕ
 stated_count bytes = little_endian (take 4 (drop 8 bytes))
 
+-- the parts after the 12 bytes of the header
 abbrev pub parts_after_header : List ℕ → Result (List Part) BatchFault
-parts_after_header bytes = in_turn (part_at (length bytes) (batch_sequence bytes)) (length bytes) [] (drop 12 bytes)
+parts_after_header bytes = in_turn (batch_part_at (length bytes) (batch_sequence bytes)) (length bytes) [] (drop 12 bytes)
 
+-- a batch's sequence number, and its parts
 pub record Batch : Type 0 where
   pub sequence : ℕ
   pub parts : List Part
 
--- The batch that the bytes are, or the first fault. It is `SequenceTop` where the batch's sequence number is
--- above the greatest one, or its last change's is.
+-- The batch's sequence number is above the greatest one, or its last change's is.
+abbrev pub passes_top : ℕ → ℕ → Bool
+passes_top sequence count = nat_lt top_sequence sequence || nat_lt (top_sequence + 1) (sequence + count)
+
+-- the batch that bytes with these parts are, or the fault of their count or of their sequence numbers
+abbrev pub batch_with : List ℕ → List Part → Result Batch BatchFault
+batch_with bytes parts =
+    if not (stated_count bytes == change_count parts) then Err (WrongCount (stated_count bytes) (change_count parts))
+    else (if passes_top (batch_sequence bytes) (change_count parts) then Err SequenceTop
+    else Ok (record { sequence = batch_sequence bytes; parts = parts }))
+
+-- the batch that the bytes are, or the first fault
 unfoldable pub batch_of : List ℕ → Result Batch BatchFault
-batch_of bytes = if nat_lt (length bytes) 12 then Err TooSmall else (do
-  parts ← parts_after_header bytes
-  if not (stated_count bytes == change_count parts) then Err (WrongCount (stated_count bytes) (change_count parts))
-      else (if nat_lt top_sequence (batch_sequence bytes) || nat_lt (top_sequence + 1) (batch_sequence bytes + change_count parts) then Err SequenceTop
-      else Ok (record { sequence = batch_sequence bytes; parts = parts })))
+batch_of bytes = if nat_lt (length bytes) 12 then Err TooSmall else parts_after_header bytes >>= batch_with bytes
 
 -- A change's tag, and the family's id after the tag that says so. Else the family is 0.
 abbrev pub SpellsFamily : List ℕ → Kind → ℕ → Type 0
-SpellsFamily bytes kind family = (bytes ≡ plain_tag kind ∷ []) × (family ≡ 0) ⊎ (id : List ℕ) × (bytes ≡ family_tag kind ∷ id) × IsVarint32 id family
+SpellsFamily bytes kind family =
+    (bytes ≡ plain_tag kind ∷ []) × (family ≡ 0)
+    ⊎ (id : List ℕ) × (bytes ≡ family_tag kind ∷ id) × IsVarint32 id family
 
 -- A deletion has an empty value, and no bytes for it.
-abbrev pub SpellsValue : List ℕ → Kind → List ℕ → Type 0
-SpellsValue bytes Deletion value = (bytes ≡ []) × (value ≡ [])
-SpellsValue bytes SingleDeletion value = (bytes ≡ []) × (value ≡ [])
-SpellsValue bytes _ value = IsPrefixed bytes value
+abbrev pub SpellsChangeValue : List ℕ → Kind → List ℕ → Type 0
+SpellsChangeValue bytes Deletion value = (bytes ≡ []) × (value ≡ [])
+SpellsChangeValue bytes SingleDeletion value = (bytes ≡ []) × (value ≡ [])
+SpellsChangeValue bytes _ value = IsPrefixed bytes value
 
 -- The bytes are a change with this sequence number: its tag and family, its key and its value.
 pub record SpellsChange (sequence : ℕ) (bytes : List ℕ) (r : Record) : Type 0 where
@@ -131,7 +150,7 @@ pub record SpellsChange (sequence : ℕ) (bytes : List ℕ) (r : Record) : Type 
   pub spelled : bytes ≡ family_bytes ++ (key_bytes ++ value_bytes)
   pub family : SpellsFamily family_bytes r.kind r.family
   pub key : IsPrefixed key_bytes r.key
-  pub value : SpellsValue value_bytes r.kind r.value
+  pub value : SpellsChangeValue value_bytes r.kind r.value
   pub sequence_is : r.sequence ≡ sequence
 
 -- The bytes at a place are this part. If it is a change, it has this sequence number.
@@ -144,7 +163,10 @@ SpellsPart place sequence bytes (noop at) = (at ≡ place) × (bytes ≡ 0xD ∷
 -- number, and each change takes one.
 abbrev pub SpellsParts : ℕ → ℕ → List ℕ → List Part → Type 0
 SpellsParts place sequence bytes [] = bytes ≡ []
-SpellsParts place sequence bytes (part ∷ parts) = (spelled : List ℕ) × (rest : List ℕ) × (bytes ≡ spelled ++ rest) × SpellsPart place sequence spelled part × SpellsParts (place + length spelled) (sequence + change_count (part ∷ [])) rest parts
+SpellsParts place sequence bytes (part ∷ parts) =
+    (spelled : List ℕ) × (rest : List ℕ) × (bytes ≡ spelled ++ rest)
+    × SpellsPart place sequence spelled part
+    × SpellsParts (place + length spelled) (sequence + change_count (part ∷ [])) rest parts
 
 -- The bytes are this batch: its sequence number, how many changes it has, and its parts.
 pub record IsBatch (bytes : List ℕ) (batch : Batch) : Type 0 where

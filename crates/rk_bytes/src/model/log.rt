@@ -20,7 +20,7 @@ pub enum GapWhy {
 
 impl fmt::Display for GapWhy {
     ghost use Rattle.std.specs.Prelude.{Some};
-    ghost use Rattle.rk_bytes.specs.Model.Output.{why_word};
+    ghost use Rattle.rk_bytes.specs.Model.Lines.{why_word};
 
     ghost output = { λ why. Some (why_word why) };
 
@@ -51,7 +51,7 @@ pub enum EndKind {
 
 impl fmt::Display for EndKind {
     ghost use Rattle.std.specs.Prelude.{Some};
-    ghost use Rattle.rk_bytes.specs.Model.Output.{kind_words};
+    ghost use Rattle.rk_bytes.specs.Model.Lines.{kind_words};
 
     ghost output = { λ kind. Some (kind_words kind) };
 

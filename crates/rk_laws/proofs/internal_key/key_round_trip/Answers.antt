@@ -1,28 +1,17 @@
-use Rattle.std.proofs.Common.{◌≡◌, ℕ, zero, suc, Bool, true, false, ◌+◌, ◌-◌, ◌*◌, ◌/◌, ◌%◌, ◌<◌, ◌≤◌, List, [], ◌∷◌, ◌++◌, length, take, drop, All, refl, sym, ap, subst, ◌∙◌, arith, length-append, take-append-drop, cond}
-use Rattle.std.specs.Prelude.{Option, Some, None, Result, Ok, Err, find, nat_lt, ◌==◌, option_map, ok_or}
+use Rattle.std.proofs.Common.{◌≡◌, ℕ, Bool, true, false, ◌-◌, ◌/◌, ◌%◌, ◌<◌, ◌≤◌, List, ◌++◌, length, take, drop, refl, sym, ap, subst, ◌∙◌, arith, length-append, take-append-drop, cond}
+use Rattle.std.specs.Prelude.{Option, Some, None, Result, Ok, Err, nat_lt, ◌==◌, option_map, ok_or}
 use Rattle.std.proofs.Math.Seq.{take-append_seam, drop-append_seam}
 use borrow.Author.Tests.{le-ltb, ltb-false, eqb-true}
 use Rattle.rk_bytes.specs.declared.model.key.Kind.{Kind}
 use Rattle.rk_bytes.specs.declared.model.key.Kind.TheVariants.{Deletion, Value, Merge, SingleDeletion, RangeDeletion}
 use Rattle.rk_bytes.specs.declared.model.key.KeyFault.{KeyFault}
 use Rattle.rk_bytes.specs.declared.model.key.KeyFault.TheVariants.{Short}
-use Rattle.rk_bytes.specs.Model.Numbers.{little_endian, fixed_of}
+use Rattle.rk_bytes.specs.Model.Numbers.{AreBytes, little_endian, fixed_of}
 use Rattle.rk_bytes.specs.Model.InternalKey.{kind_number, all_kinds, kind_of, packed_of, user_key, packed, internal_key, KeyParts, kind_fault, key_parts}
-use Rattle.rk_laws.proofs.Orders.{All-drop, length-end}
+use Rattle.rk_laws.proofs.FixedNumbers.{little_endian-fixed_of, length-fixed_of, fixed_of-little_endian}
+use Rattle.rk_laws.proofs.Orders.{AreBytes-drop, length-end}
+use Rattle.rk_laws.proofs.ReadingLemmas.{found_passes}
 use Rattle.rk_laws.proofs.internal_key.key_round_trip.Goals as goal
-
--- 256 to the power of len
-abbrev bound : ℕ → ℕ
-bound zero = 1
-bound (suc len) = 256 * bound len
-
-little_endian-fixed_of : (len n : ℕ) → n < bound len → little_endian (fixed_of len n) ≡ n
-little_endian-fixed_of zero n below = omega arith
-little_endian-fixed_of (suc len) n below = let rest = little_endian-fixed_of len (n / 256) (omega arith) in omega arith
-
-length-fixed_of : (len n : ℕ) → length (fixed_of len n) ≡ len
-length-fixed_of zero n = refl
-length-fixed_of (suc len) n = ap suc (length-fixed_of len (n / 256))
 
 kind_of-kind_number : (kind : Kind) → kind_of (kind_number kind) ≡ Some kind
 kind_of-kind_number Deletion = refl
@@ -68,32 +57,13 @@ returns-clause-key c user sequence kind below =
     (ap (λ len. take len (user ++ end)) cut ∙ take-append_seam user end)
     (ap (λ len. little_endian (drop len (user ++ end))) cut ∙ ap little_endian (drop-append_seam user end) ∙ little_endian-fixed_of 8 n (omega arith))
 
-fixed_of-little_endian : (bytes : List ℕ) → All (λ x. x < 256) bytes → fixed_of (length bytes) (little_endian bytes) ≡ bytes
-fixed_of-little_endian [] are = refl
-fixed_of-little_endian (b ∷ bytes) are =
-    let byte : b < 256 = are 0 0 (omega arith) in
-    let low : (b + 256 * little_endian bytes) % 256 ≡ b = omega arith in
-    let high : (b + 256 * little_endian bytes) / 256 ≡ little_endian bytes = omega arith in
-    let rest = ap (fixed_of (length bytes)) high ∙ fixed_of-little_endian bytes (λ k d below. are (suc k) d (omega arith)) in
-    λ i. low i ∷ rest i
-
--- a kind that is found by a number has it
-number_of_found : (number : ℕ) (kinds : List Kind) (kind : Kind) → find (λ kind. kind_number kind == number) kinds ≡ Some kind → kind_number kind ≡ number
-number_of_found number [] kind found = cc
-number_of_found number (first ∷ kinds) kind found = by (kind_number first == number) refl found (λ found. number_of_found number kinds kind found)
-  where
-    by : (test : Bool) → (kind_number first == number) ≡ test → cond test (Some first) (find (λ kind. kind_number kind == number) kinds) ≡ Some kind
-        → (find (λ kind. kind_number kind == number) kinds ≡ Some kind → kind_number kind ≡ number) → kind_number kind ≡ number
-    by true told found later = let same : first ≡ kind = cc in ap kind_number (sym same) ∙ eqb-true (kind_number first) number told
-    by false told found later = later found
-
-made_again : (key : List ℕ) (kind : Kind) → 8 ≤ length key → All (λ x. x < 256) key → kind_number kind ≡ packed key % 256 → internal_key (user_key key) (packed key / 256) kind ≡ key
+made_again : (key : List ℕ) (kind : Kind) → 8 ≤ length key → AreBytes key → kind_number kind ≡ packed key % 256 → internal_key (user_key key) (packed key / 256) kind ≡ key
 unfolding internal_key
 made_again key kind long bytes kind_is =
     let end : List ℕ = drop (length key - 8) key in
     let number : packed_of (packed key / 256) kind ≡ packed key = omega arith in
     let ends : fixed_of 8 (packed key) ≡ end =
-    ap (λ len. fixed_of len (packed key)) (sym (length-end key long)) ∙ fixed_of-little_endian end (All-drop (length key - 8) key bytes) in
+    ap (λ len. fixed_of len (packed key)) (sym (length-end key long)) ∙ fixed_of-little_endian end (AreBytes-drop (length key - 8) key bytes) in
     ap (λ end. user_key key ++ end) (ap (fixed_of 8) number ∙ ends) ∙ take-append-drop (length key - 8) key
 
 pub returns-clause-parts : goal.returns-clause-parts
@@ -105,7 +75,7 @@ returns-clause-parts c key parts bytes read = by_length (nat_lt (length key) 8) 
     by_kind (Some kind) long found read =
         let same : record { user = user_key key; sequence = packed key / 256; kind = kind } ≡ parts = cc in
         subst (λ (parts : KeyParts). internal_key parts.user parts.sequence parts.kind ≡ key) same
-        (made_again key kind long bytes (number_of_found (packed key % 256) all_kinds kind found))
+        (made_again key kind long bytes (eqb-true (kind_number kind) (packed key % 256) (found_passes (λ kind. kind_number kind == packed key % 256) all_kinds kind found)))
 
     by_length : (is_short : Bool) → nat_lt (length key) 8 ≡ is_short
         → answer is_short (user_key key) (packed key / 256) (kind_of (packed key % 256)) (packed key % 256) ≡ Ok parts → internal_key parts.user parts.sequence parts.kind ≡ key

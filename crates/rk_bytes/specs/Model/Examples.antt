@@ -1,0 +1,6 @@
+pub mod Drill
+pub mod Opening
+pub mod Output
+pub mod Repair
+pub mod Salvage
+pub mod Writers

@@ -1,5 +1,0 @@
-use Rattle.rk_log.proofs.Tables.{table_entry}
-use Rattle.rk_log.proofs.sum.after_byte.Goals as goal
-
-pub returns : goal.returns
-returns c = table_entry c.args.zeros c.args.byte c.requires c.ranges.byte.fits
