@@ -20,6 +20,8 @@ mod PartingLemmas
 mod Readers
 mod ReadingLemmas
 mod RecordMaps
+mod ReplayLaw
+mod ReplayLemmas
 mod RestartLemmas
 mod SalvageLemmas
 mod Varints
