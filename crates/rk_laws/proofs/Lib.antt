@@ -13,6 +13,7 @@ mod EntryLemmas
 mod FixedNumbers
 mod InTurn
 mod IndexLaw
+mod LostNames
 mod ManifestUnits
 mod NameLemmas
 mod Orders
