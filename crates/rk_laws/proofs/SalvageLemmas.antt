@@ -14,11 +14,7 @@ use Rattle.rk_bytes.specs.declared.model.key.Record.{Record}
 use Rattle.rk_bytes.specs.Model.InternalKey.{kind_number, kind_of, packed_of}
 use Rattle.rk_bytes.specs.Model.DiskImages.{Directory}
 use Rattle.rk_bytes.specs.Model.Records.{Slot, slot_cmp, slot_of, last_records}
-<<<<<<< HEAD
-use Rattle.rk_bytes.specs.Model.Salvage.{placed, last_placed, is_held, not_held, kept_records, tables_in, remainder, salvage_records, tables_alone}
-=======
 use Rattle.rk_bytes.specs.Model.Salvage.{placed, last_placed, is_held, not_held, kept_records, found_files, remainder, salvage_records, tables_alone}
->>>>>>> 023e1df33c6f4fa1d869b22c9d2f392b65435052
 use Rattle.rk_laws.proofs.Orders.{slot_cmp-total, slot_cmp-only_equal}
 use Rattle.rk_laws.proofs.RecordMaps.{entry_of, get-last_records, get-over, last_records-append}
 

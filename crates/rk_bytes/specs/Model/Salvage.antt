@@ -15,12 +15,8 @@ use Rattle.rk_bytes.specs.declared.model.batch.BatchFault.TheVariants.{Unsupport
 use Rattle.rk_bytes.specs.declared.model.block.RangeDel.{RangeDel}
 use Rattle.rk_bytes.specs.declared.model.block.IndexEntry.{IndexEntry}
 use Rattle.rk_bytes.specs.declared.model.table.Footer.{Footer}
-<<<<<<< HEAD
-use Rattle.rk_bytes.specs.declared.model.table.TableWhat.TheVariants.{Comparator, External}
-=======
 use Rattle.rk_bytes.specs.declared.model.table.TableWhat.TheVariants.{Comparator}
 use Rattle.rk_bytes.specs.declared.model.table.TableWhy.TheVariants.{OutOfFile}
->>>>>>> 023e1df33c6f4fa1d869b22c9d2f392b65435052
 use Rattle.rk_bytes.specs.declared.model.log.GapWhy.TheVariants.{Checksum}
 use Rattle.rk_bytes.specs.declared.model.wal.LogWhat.{LogWhat}
 use Rattle.rk_bytes.specs.declared.model.wal.LogWhat.TheVariants.{RecordType, Tag}
@@ -34,13 +30,8 @@ use Rattle.rk_bytes.specs.declared.model.salvage.Moved.{Moved}
 use Rattle.rk_bytes.specs.declared.model.salvage.Report.{Report}
 use Rattle.rk_bytes.specs.Model.Numbers.{in_turn}
 use Rattle.rk_bytes.specs.Model.Checksums.{pieces, crc_bit, crc_bits, crc_bytes, crc32c}
-<<<<<<< HEAD
-use Rattle.rk_bytes.specs.Model.BlockEntries.{block_entries, entries_after, index_entries}
-use Rattle.rk_bytes.specs.Model.TableFooter.{footer_of, checked_block}
-=======
 use Rattle.rk_bytes.specs.Model.BlockEntries.{block_entries, entries_after}
 use Rattle.rk_bytes.specs.Model.TableFooter.{footer_of}
->>>>>>> 023e1df33c6f4fa1d869b22c9d2f392b65435052
 use Rattle.rk_bytes.specs.Model.TableStatus.{TableFault, damaged, unsupported, BlockReader, reader_of, DataEntry, data_block, record_in, is_set, user_separators, family_of, family_name_of, is_range_deletion, TableHead, head_with, Good, table_status}
 use Rattle.rk_bytes.specs.Model.LogMarks.{log_marks, blocks_marks, block_len, marks_from, fragment_found, found}
 use Rattle.rk_bytes.specs.Model.DiskImages.{Directory}
@@ -83,7 +74,9 @@ part_of_head block_of head = record {
 
 -- the part of a table with this footer
 abbrev pub part_with : List ℕ → Footer → Option TablePart
-part_with table footer = elim (head_with (reader_of table footer) footer) [ Ok head ↦ Some (part_of_head (reader_of table footer) head) | Err why ↦ None ]
+part_with table footer =
+    let block_of = reader_of table footer in
+    elim (head_with block_of footer) [ Ok head ↦ Some (part_of_head block_of head) | Err why ↦ None ]
 
 -- The part of a table, which has none just where its footer, its metaindex, its properties, its range
 -- deletions or its index have a fault.

@@ -1,10 +1,6 @@
 -- Directories that are salvaged and repaired, small enough to be computed (this project's own examples). Their
 -- bytes were made outside.
-<<<<<<< HEAD
-use Rattle.std.specs.Prelude.{◌≡◌, ℕ, List, [], ◌∷◌, ◌++◌, replicate, Result, Ok, codes, T, refl}
-=======
 use Rattle.std.specs.Prelude.{◌≡◌, ℕ, List, [], ◌∷◌, ◌++◌, take, drop, replicate, Option, Some, None, Result, Ok, codes, T, refl}
->>>>>>> 023e1df33c6f4fa1d869b22c9d2f392b65435052
 use Rattle.std.specs.Ordering.{nat_cmp}
 use Rattle.std.specs.Cmp.Lexicographic.{slice_cmp}
 use Rattle.std.specs.FinMap.{is_sorted, from_sorted, entries-from_sorted}
@@ -24,11 +20,7 @@ use Rattle.rk_bytes.specs.Model.TableFooter.{footer_of, checked_block}
 use Rattle.rk_bytes.specs.Model.TableStatus.{table_with, table_status}
 use Rattle.rk_bytes.specs.Model.WriteBatch.{batch_of}
 use Rattle.rk_bytes.specs.Model.Records.{slot_cmp}
-<<<<<<< HEAD
-use Rattle.rk_bytes.specs.Model.Salvage.{Files, readable_records, table_part, numbered, greatest_number, agreeing, placed, last_in_order, tables_in, logs_in, remainder_of, taken_records, of_files, free_lost_name, moves, report, repair_report}
-=======
 use Rattle.rk_bytes.specs.Model.Salvage.{Files, readable_records, table_part, numbered, greatest_number, agreeing, placed, last_in_order, TablePart, found_files, known_families, remainder_of, taken_records, report_of_files, free_lost_name, moves, repair_report}
->>>>>>> 023e1df33c6f4fa1d869b22c9d2f392b65435052
 
 -- a table of `a` = `x` at sequence 1
 good_table : List ℕ
