@@ -1,3 +1,4 @@
+pub mod Directories
 pub mod Drill
 pub mod Opening
 pub mod Output
