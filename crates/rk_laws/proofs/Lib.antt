@@ -1,8 +1,10 @@
 mod BatchLaw
 mod BatchLemmas
+mod BestVector
 mod BlockLaw
 mod BlockLemmas
 mod DeltaLemmas
+mod DescentLemmas
 mod DiskLaw
 mod EditFields
 mod EditFiles

@@ -1,9 +1,10 @@
 -- What a directory is opened to, or the first reason why it isn't (db/db_impl/db_impl_open.cc,
 -- db/version_set.cc). The order of the refusals, that each block of every listed table is tested and its records
 -- against the stated bounds, and the tracked logs' tests are this project's own rules.
-use Rattle.std.specs.Prelude.{ℕ, ◌==◌, max, Bool, List, [], ◌∷◌, ◌++◌, length, map, flat_map, filter, filter_map, fold, nat_lt, nat_le, if◌then◌else◌, Option, Some, None, ok_or, Result, Ok, Err}
+use Rattle.std.specs.Prelude.{◌≡◌, ℕ, ◌==◌, max, Bool, List, [], ◌∷◌, ◌++◌, length, map, flat_map, filter, filter_map, fold, nat_lt, nat_le, if◌then◌else◌, Option, Some, None, ok_or, Result, Ok, Err, codes, refl}
 use Rattle.std.specs.List.{list_all}
 use Rattle.std.specs.FinMap.{get, entries}
+use Rattle.std.specs.Fmt.{digits}
 use Rattle.rk_bytes.specs.declared.model.name.FileName.{FileName}
 use Rattle.rk_bytes.specs.declared.model.name.FileName.TheVariants.{Log as log_file}
 use Rattle.rk_bytes.specs.declared.model.key.Kind.TheVariants.{RangeDeletion}
@@ -181,3 +182,18 @@ open_files mode files logs = do
 -- what a directory is opened to in a mode
 abbrev pub open_directory : Mode → Directory → Result Opened OpenErr
 open_directory mode d = open_files mode (get d) (logs_of (entries d))
+
+-- The logs among files stand by their numbers, and so do the tables of families.
+of_logs : map (λ log. log.number) (logs_of ((codes "1000000.log", []) ∷ (codes "999999.log", []) ∷ (codes "999999.sst", []) ∷ (codes "lost/000001.log", []) ∷ [])) ≡ 999999 ∷ 1000000 ∷ []
+unfolding name_of digits
+of_logs = refl
+
+-- a table's meta data, of which the number is looked at
+file_of : ℕ → FileMeta
+file_of number = record { number = number; level = 0; size = 0; smallest = []; largest = []; seqs = None }
+
+of_tables : map (λ table. table.file.number) (listed_tables (
+    record { id = 0; name = codes "default"; log = 3; files = file_of 4 ∷ file_of 9 ∷ [] } ∷ record { id = 5; name = codes "five"; log = 3; files = file_of 6 ∷ [] } ∷ []))
+    ≡ 4 ∷ 6 ∷ 9 ∷ []
+unfolding file_of
+of_tables = refl
