@@ -1,4 +1,5 @@
 pub mod DataBlocks
+pub mod Directories
 pub mod Drill
 pub mod Opening
 pub mod Output
