@@ -63,9 +63,20 @@ closed payload place _ = gap MissingEnd place
 -- `one_parting`).
 pub data Parts : List Mark → List Item → Type 0 where
   nothing : Parts [] []
-  single : {mark : Mark} {rest : List Mark} {items : List Item} → is_first mark ≡ false → Parts rest items → Parts (mark ∷ rest) (alone mark ∷ items)
-  record_closed : {payload : List ℕ} {place : ℕ} {marks rest : List Mark} {next : Mark} {items : List Item} → after_middles marks ≡ next ∷ rest → begins_record next ≡ false → Parts rest items → Parts (first payload place ∷ marks) (closed (payload ++ middles marks) place next ∷ items)
-  record_broken : {payload : List ℕ} {place : ℕ} {marks rest : List Mark} {next : Mark} {items : List Item} → after_middles marks ≡ next ∷ rest → begins_record next ≡ true → Parts (next ∷ rest) items → Parts (first payload place ∷ marks) (gap MissingEnd place ∷ items)
+  single : {mark : Mark} {rest : List Mark} {items : List Item}
+      → is_first mark ≡ false
+      → Parts rest items
+      → Parts (mark ∷ rest) (alone mark ∷ items)
+  record_closed : {payload : List ℕ} {place : ℕ} {marks rest : List Mark} {next : Mark} {items : List Item}
+      → after_middles marks ≡ next ∷ rest
+      → begins_record next ≡ false
+      → Parts rest items
+      → Parts (first payload place ∷ marks) (closed (payload ++ middles marks) place next ∷ items)
+  record_broken : {payload : List ℕ} {place : ℕ} {marks rest : List Mark} {next : Mark} {items : List Item}
+      → after_middles marks ≡ next ∷ rest
+      → begins_record next ≡ true
+      → Parts (next ∷ rest) items
+      → Parts (first payload place ∷ marks) (gap MissingEnd place ∷ items)
 
 -- the last mark is an end, and no other is
 abbrev pub EndsOnce : List Mark → Type 0

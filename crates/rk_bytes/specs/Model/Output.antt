@@ -11,6 +11,7 @@ use Rattle.rk_bytes.specs.declared.model.status.Status.{Status}
 use Rattle.rk_bytes.specs.declared.model.status.Status.TheVariants.{Done, Refused, Usage, DiskFault, SinkFault, Memory, NotFound}
 use Rattle.rk_bytes.specs.Model.DiskImages.{Directory}
 use Rattle.rk_bytes.specs.Model.FileNames.{log_name}
+use Rattle.rk_bytes.specs.Model.Checksums.{pieces}
 use Rattle.rk_bytes.specs.Model.LogMarks.{blocks_marks, block_len, log_marks}
 use Rattle.rk_bytes.specs.Model.LogItems.{Item, rec, gap, end, log_items}
 
@@ -114,7 +115,7 @@ unfolding digits
 of_an_unsupported_end = refl
 
 of_an_empty_log : dump_wal_output 3 (Some []) ≡ record { lines = line (codes "end 0 Clean") ∷ []; status = Done }
-unfolding log_marks blocks_marks block_len digits
+unfolding log_marks blocks_marks block_len pieces digits
 of_an_empty_log = refl
 
 of_no_log : dump_wal_output 3 None ≡ record { lines = line (codes "refused: NoLog 3") ∷ []; status = Refused }
