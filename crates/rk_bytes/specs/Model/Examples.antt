@@ -1,3 +1,4 @@
 pub mod Drill
+pub mod DrillLogs
 pub mod Repair
 pub mod Writers
