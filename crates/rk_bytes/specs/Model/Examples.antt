@@ -1,4 +1,5 @@
 pub mod Drill
+pub mod DrillLogs
 pub mod Opening
 pub mod Output
 pub mod Repair
