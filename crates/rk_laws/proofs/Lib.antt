@@ -21,6 +21,8 @@ mod PartingLemmas
 mod Readers
 mod ReadingLemmas
 mod RecordMaps
+mod ReplayLaw
+mod ReplayLemmas
 mod RestartLemmas
 mod SalvageFiles
 mod SalvageLemmas
