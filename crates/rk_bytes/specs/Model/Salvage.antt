@@ -1,7 +1,7 @@
 -- Salvage: the records that a directory's tables and logs still hold, whatever its manifests say
 -- (RocksDB's wiki, "RocksDB Repairer"; db/repair.cc). What is taken and in which order, and the refusals, are
 -- this project's own rules.
-use Rattle.std.specs.Prelude.{◌≡◌, ℕ, zero, suc, ◌+◌, ◌^◌, Bool, true, false, not, ◌&&◌, ◌||◌, List, [], ◌∷◌, ◌++◌, length, map, flat_map, filter, filter_map, reverse, fold, min, max, sum_by, replicate, slice_get, nat_lt, nat_le, ◌==◌, if◌then◌else◌, Option, Some, None, option_map, unwrap_or, is_some, Result, Ok, Err, bytes_eq, codes, refl}
+use Rattle.std.specs.Prelude.{◌≡◌, ℕ, zero, suc, ◌+◌, ◌^◌, Bool, true, false, not, ◌&&◌, ◌||◌, List, [], ◌∷◌, ◌++◌, length, map, flat_map, filter, filter_map, fold, min, max, sum_by, replicate, slice_get, nat_lt, nat_le, ◌==◌, if◌then◌else◌, Option, Some, None, option_map, unwrap_or, is_some, Result, Ok, Err, bytes_eq, codes, refl}
 use Rattle.std.specs.List.{list_any, reduce, find as first_that}
 use Rattle.std.specs.Fmt.{digits}
 use Rattle.std.specs.FinMap.{entries, values}
@@ -42,7 +42,7 @@ use Rattle.rk_bytes.specs.Model.VersionEdit.{added_in, edit_fields}
 use Rattle.rk_bytes.specs.declared.model.view.Tomb.{Tomb}
 use Rattle.rk_bytes.specs.Model.KeyView.{State, tomb_of, is_covered}
 use Rattle.rk_bytes.specs.Model.Opening.{in_order, range_record}
-use Rattle.rk_bytes.specs.Model.Records.{Slot, slot_of, slot_cmp, end_of, RecordMap, last_records}
+use Rattle.rk_bytes.specs.Model.Records.{Slot, slot_of, slot_cmp, end_of, RecordMap, slotted, last_records}
 
 -- the value of an answer, or an empty list
 abbrev pub list_or_none : {A F : Type 0} → Result (List A) F → List A
@@ -292,7 +292,7 @@ placed (entry ∷ entries) = put slot_cmp entry.0 entry.1 (placed entries)
 
 -- the entries of the map of a list's last records, in their order (law `records_in_order`)
 abbrev pub last_placed : List Record → List (Slot × Record)
-last_placed records = placed (map (λ r. (slot_of r, r)) (reverse records))
+last_placed records = placed (slotted records)
 
 -- the last record in each slot of a list, in the order of the slots
 abbrev pub last_in_order : List Record → List Record

@@ -29,7 +29,7 @@ use Rattle.rk_bytes.specs.Model.Opening.{Files, Opened, Best as BestOpened, Tabl
 use Rattle.rk_bytes.specs.Model.BestEfforts.{number_of_manifest, usable_units, are_complete, best_points, all_pass, is_whole_in, tables_at, best_line, last_families, best_with, best_files}
 use Rattle.rk_bytes.specs.Model.Drill.{drill_directory}
 use Rattle.rk_bytes.specs.Model.TableStatus.{is_range_deletion}
-use Rattle.rk_bytes.specs.Model.Salvage.{placed, last_placed, last_in_order, tables_in, logs_in, known_families, taken_records, report, of_files, salvage_families, salvage_records, repair_report}
+use Rattle.rk_bytes.specs.Model.Salvage.{placed, last_placed, last_in_order, report_of_files}
 use Rattle.rk_bytes.specs.Model.Grammar.{KeyWord, key_bytes, Command, scan, get as get_key, families, manifest_dump, dump_wal, check, repair, sst, drill, all_modes}
 use Rattle.rk_bytes.specs.Model.Lines.{row_line, answer_line, manifest_line, point_line, ok_line, count_words, mode_line, best_efforts_line, drill_line, refused_words, open_err_words}
 use Rattle.rk_bytes.specs.Model.Output.{Output, written, refused, unless_refused, dump_wal_output, manifest_dump_output, families_output, sst_output, state_of, of_family, scan_output, answer_status, get_output, counts_line, check_output, repair_output, salvage_state, opened_counts, repair_line, drill_output, command_output}
@@ -285,13 +285,13 @@ on_files (manifest_dump hex) files = manifest_dump_output hex (file_in files)
 on_files (dump_wal n hex) files = dump_wal_output n hex (file_in files (log_name n))
 on_files (check (Normal mode)) files = check_listed (opened_to mode files)
 on_files (check Best) files = check_best_listed (best_to files)
-on_files repair files = repair_output (of_files report files)
+on_files repair files = repair_output (report_of_files files)
 on_files (sst n part hex) files = sst_output n part hex (file_in files (table_name n))
 on_files (drill n) files = command_output (Some (drill n)) empty
 
 -- A command writes of a directory what it writes of the list of its files.
 pub by_files : (command : Command) (d : Directory) (files : Listing) → entries d ≡ files → command_output (Some command) d ≡ on_files command files
-unfolding command_output on_files repair_report
+unfolding command_output on_files
 by_files (scan named how from to hex) d files lists = ap (scan_output named from to hex) (state_same how d files lists) ∙ scan_same named from to hex (state_to how files)
 by_files (get_key key named how hex) d files lists = ap (get_output key named hex) (state_same how d files lists) ∙ get_same key named hex (state_to how files)
 by_files families d files lists = λ i. families_output (λ name. found_in d files lists name i)
@@ -303,6 +303,6 @@ by_files (check (Normal mode)) d files lists =
 by_files (check Best) d files lists =
     ap (unless_refused open_err_words (λ best. written (manifest_line best.manifest best.units ∷ map point_line best.points ++ counts_line best.state ∷ []))) (best_by d files lists ∙ best_listed files)
     ∙ check_best_same (best_to files)
-by_files repair d files lists = λ i. repair_output (of_files report (lists i))
+by_files repair d files lists = λ i. repair_output (report_of_files (lists i))
 by_files (sst n part hex) d files lists = λ i. sst_output n part hex (found_in d files lists (table_name n) i)
 by_files (drill n) d files lists = λ i. drill_output n (drill_directory n)
