@@ -1,8 +1,10 @@
 -- Which directories a repair that is stopped anywhere may leave, and disks that never hold another (this
 -- project's own rule). Directories are compared alone: nothing here speaks of the steps of a repair.
-use Rattle.std.specs.Prelude.{◌≡◌, ◌⊎◌, ℕ, Bool, true, false, IsTrue, List, Some, None, Result, Ok, Err, Contains}
+use Rattle.std.specs.Prelude.{◌≡◌, ◌⊎◌, ℕ, Bool, true, false, IsTrue, List, [], ◌∷◌, map, Some, None, Result, Ok, Err, Contains, codes, refl}
 use Rattle.std.specs.List.{AllByRecursion}
-use Rattle.std.specs.FinMap.{get}
+use Rattle.std.specs.FinMap.{get, from_entries, get-from_entries}
+use Rattle.std.specs.Cmp.Lexicographic.{nat_list_cmp_total}
+use Rattle.std.specs.Fmt.{digits}
 use Rattle.rk_bytes.specs.declared.model.key.Record.{Record}
 use Rattle.rk_bytes.specs.declared.model.name.FileName.{FileName}
 use Rattle.rk_bytes.specs.declared.model.name.FileName.TheVariants.{Current, Log, Table, Temp}
@@ -84,3 +86,28 @@ is_temporary _ = false
 pub record IsReady (disk : DiskState) (d : Directory) : Type 0 where
   pub images : (image : Directory) → IsImage disk image → Descends image d
   pub unsynced_names : AllByRecursion (λ name. IsTrue (is_temporary (name_of name))) (unsynced disk)
+
+-- names of each kind
+some_names : List (List ℕ)
+some_names = codes "000003.log" ∷ codes "000004.sst" ∷ codes "MANIFEST-000002" ∷ codes "000005.dbtmp" ∷ codes "CURRENT" ∷ codes "lost/000003.log" ∷ codes "IDENTITY" ∷ []
+
+logs_and_tables_may_move : map (λ name. may_move (name_of name)) some_names ≡ true ∷ true ∷ false ∷ false ∷ false ∷ false ∷ false ∷ []
+unfolding some_names name_of digits
+logs_and_tables_may_move = refl
+
+current_and_temporary_files_may_go : map (λ name. may_go (name_of name)) some_names ≡ false ∷ false ∷ false ∷ true ∷ true ∷ false ∷ false ∷ []
+unfolding some_names name_of digits
+current_and_temporary_files_may_go = refl
+
+-- A log that was moved while the first name below `lost/` was taken.
+log_that_moved : HasMoved
+    (from_entries ((codes "lost/000003.log", 2 ∷ []) ∷ (codes "lost/000003.log.1", 1 ∷ []) ∷ []))
+    (from_entries ((codes "lost/000003.log", 2 ∷ []) ∷ (codes "000003.log", 1 ∷ []) ∷ []))
+    (codes "000003.log") (1 ∷ [])
+unfolding name_of digits
+log_that_moved = record {
+  may = refl;
+  tried = 1;
+  free = get-from_entries nat_list_cmp_total ((codes "lost/000003.log", 2 ∷ []) ∷ (codes "000003.log", 1 ∷ []) ∷ []) (codes "lost/000003.log.1");
+  is = get-from_entries nat_list_cmp_total ((codes "lost/000003.log", 2 ∷ []) ∷ (codes "lost/000003.log.1", 1 ∷ []) ∷ []) (codes "lost/000003.log.1");
+}
