@@ -26,4 +26,5 @@ mod ReplayLemmas
 mod RestartLemmas
 mod SalvageFiles
 mod SalvageLemmas
+mod SalvageSteps
 mod Varints
