@@ -6,10 +6,12 @@ mod BlockLemmas
 mod DeltaLemmas
 mod DescentLemmas
 mod DiskLaw
+mod EachElement
 mod EditFields
 mod EditFiles
 mod EditTracked
 mod EntryLemmas
+mod FilesAtPoints
 mod FixedNumbers
 mod InTurn
 mod IndexLaw
@@ -22,4 +24,5 @@ mod ReadingLemmas
 mod RecordMaps
 mod RestartLemmas
 mod SalvageLemmas
+mod UsableUnits
 mod Varints

@@ -19,12 +19,14 @@ mod records;
 mod salvage;
 
 pub use batch::one_batch;
-pub use best_efforts::one_best_vector;
+pub use best_efforts::{answers_of_a_test, one_best_vector, usable_units};
 pub use blocks::{one_block, one_delta_index, one_index};
 pub use checksums::{crc32c_of_appended, mask_round_trip};
 pub use commands::one_command;
 pub use descent::{descends_from_itself, descent_goes_through, ready_after_a_stop};
-pub use disk_images::{contents_at_rest, image_of_an_image, images_of_synced_names, one_image_at_rest};
+pub use disk_images::{
+    contents_at_rest, image_of_an_image, images_of_synced_names, one_image_at_rest,
+};
 pub use edit::one_edit;
 pub use internal_key::{key_order, key_round_trip};
 pub use log_items::one_parting;
