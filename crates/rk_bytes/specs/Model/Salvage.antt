@@ -4,20 +4,17 @@
 use Rattle.std.specs.Prelude.{◌≡◌, ℕ, zero, suc, ◌+◌, ◌^◌, Bool, true, false, not, ◌&&◌, ◌||◌, List, [], ◌∷◌, ◌++◌, length, map, flat_map, filter, filter_map, reverse, fold, min, max, sum_by, replicate, take, drop, slice_get, nat_lt, nat_le, ◌==◌, if◌then◌else◌, Option, Some, None, option_map, unwrap_or, Result, Ok, Err, bytes_eq, codes, refl}
 use Rattle.std.specs.List.{list_any, reduce, find as first_that}
 use Rattle.std.specs.Fmt.{digits}
-use Rattle.std.specs.Ordering.{nat_cmp}
-use Rattle.std.specs.Cmp.Lexicographic.{slice_cmp}
 use Rattle.std.specs.FinMap.{entries, values}
 use Rattle.std.specs.FinMap.Entries.{put, find}
 use Rattle.std.specs.Option.{option_map_or}
 use Rattle.rk_bytes.specs.declared.model.log.EndKind.TheVariants.{Clean, Torn, Unsupported}
-use Rattle.rk_bytes.specs.declared.model.key.Kind.TheVariants.{Deletion, Value, RangeDeletion}
+use Rattle.rk_bytes.specs.declared.model.key.Kind.TheVariants.{Value}
 use Rattle.rk_bytes.specs.declared.model.key.Record.{Record}
 use Rattle.rk_bytes.specs.declared.model.batch.BatchFault.{BatchFault}
 use Rattle.rk_bytes.specs.declared.model.batch.BatchFault.TheVariants.{UnsupportedTag}
 use Rattle.rk_bytes.specs.declared.model.block.RangeDel.{RangeDel}
 use Rattle.rk_bytes.specs.declared.model.block.IndexEntry.{IndexEntry}
 use Rattle.rk_bytes.specs.declared.model.table.Footer.{Footer}
-use Rattle.rk_bytes.specs.declared.model.table.TableWhat.{TableWhat}
 use Rattle.rk_bytes.specs.declared.model.table.TableWhat.TheVariants.{Comparator, External}
 use Rattle.rk_bytes.specs.declared.model.log.GapWhy.TheVariants.{Checksum}
 use Rattle.rk_bytes.specs.declared.model.wal.LogWhat.{LogWhat}
@@ -30,17 +27,17 @@ use Rattle.rk_bytes.specs.declared.model.salvage.FamilyName.{FamilyName}
 use Rattle.rk_bytes.specs.declared.model.salvage.Kept.{Kept}
 use Rattle.rk_bytes.specs.declared.model.salvage.Moved.{Moved}
 use Rattle.rk_bytes.specs.declared.model.salvage.Report.{Report}
-use Rattle.rk_bytes.specs.Model.Numbers.{◌>>=◌, in_turn}
+use Rattle.rk_bytes.specs.Model.Numbers.{in_turn}
 use Rattle.rk_bytes.specs.Model.Checksums.{pieces, crc_bit, crc_bits, crc_bytes, crc32c}
 use Rattle.rk_bytes.specs.Model.BlockEntries.{block_entries, entries_after, index_entries}
 use Rattle.rk_bytes.specs.Model.TableFooter.{footer_of, checked_block}
-use Rattle.rk_bytes.specs.Model.TableStatus.{TableFault, damaged, unsupported, BlockReader, reader_of, DataEntry, data_block, record_in, is_set, user_separators, family_of, family_name_of, is_range_deletion, TableHead, head_with, Good, table_with, table_status}
+use Rattle.rk_bytes.specs.Model.TableStatus.{TableFault, damaged, unsupported, BlockReader, reader_of, DataEntry, data_block, record_in, is_set, user_separators, family_of, family_name_of, is_range_deletion, TableHead, head_with, Good, table_status}
 use Rattle.rk_bytes.specs.Model.LogMarks.{log_marks, blocks_marks, block_len, marks_from, fragment_found, found}
 use Rattle.rk_bytes.specs.Model.DiskImages.{Directory}
 use Rattle.rk_bytes.specs.Model.FileNames.{name_of, log_name, table_name, lost_name}
 use Rattle.rk_bytes.specs.Model.LogItems.{Item, rec, gap, end, log_items}
 use Rattle.rk_bytes.specs.Model.WriteBatch.{Batch, changes, batch_of}
-use Rattle.rk_bytes.specs.Model.VersionEdit.{Field, added_in, edit_fields}
+use Rattle.rk_bytes.specs.Model.VersionEdit.{added_in, edit_fields}
 use Rattle.rk_bytes.specs.declared.model.view.Tomb.{Tomb}
 use Rattle.rk_bytes.specs.Model.KeyView.{State, tomb_of, is_covered}
 use Rattle.rk_bytes.specs.Model.Opening.{in_order, range_record}

@@ -1,6 +1,6 @@
 -- Worked examples of commands, computed from the bytes of a directory's files (this project's own). The bytes
 -- were made outside.
-use Rattle.std.specs.Prelude.{◌≡◌, ℕ, ◌==◌, Bool, true, false, List, [], ◌∷◌, ◌++◌, length, map, filter, filter_map, option_map, Result, Ok, Err, reverse, take, replicate, Option, Some, None, codes, T, refl}
+use Rattle.std.specs.Prelude.{◌≡◌, ℕ, ◌==◌, Bool, true, false, List, [], ◌∷◌, ◌++◌, length, map, filter, filter_map, option_map, Result, Ok, reverse, Option, Some, None, codes, T, refl}
 use Rattle.std.specs.Fmt.{digits}
 use Rattle.std.specs.List.{slice_split}
 use Rattle.std.specs.Ordering.{nat_cmp}
@@ -14,7 +14,7 @@ use Rattle.rk_bytes.specs.declared.model.view.Tomb.{Tomb}
 use Rattle.rk_bytes.specs.Model.Records.{Slot, slot_of, slot_cmp, last_records}
 use Rattle.rk_bytes.specs.Model.Salvage.{placed, last_in_order}
 use Rattle.rk_bytes.specs.declared.model.wal.Mode.{Mode}
-use Rattle.rk_bytes.specs.declared.model.wal.Mode.TheVariants.{TolerateTail, Absolute, PointInTime, SkipAny}
+use Rattle.rk_bytes.specs.declared.model.wal.Mode.TheVariants.{PointInTime}
 use Rattle.rk_bytes.specs.declared.model.command.How.TheVariants.{Normal}
 use Rattle.rk_bytes.specs.declared.model.key.Kind.TheVariants.{Value}
 use Rattle.rk_bytes.specs.declared.model.open.OpenErr.{OpenErr}
@@ -27,15 +27,12 @@ use Rattle.rk_bytes.specs.Model.Opening.{table_file, open_files, open_directory,
 use Rattle.rk_bytes.specs.Model.KeyView.{State, Row, rows, view_records, row_of, shown, deciding, uncovered, is_between, keys_in}
 use Rattle.std.proofs.Common.{sym, ap, ◌∙◌}
 use Rattle.hex.specs.Hex.{decode_pairs, encode_with}
-use Rattle.rk_bytes.specs.declared.model.status.Status.{Status}
-use Rattle.rk_bytes.specs.declared.model.status.Status.TheVariants.{Done, Refused, Usage, NotFound}
 use Rattle.rk_bytes.specs.Model.Numbers.{in_turn}
 use Rattle.rk_bytes.specs.Model.Checksums.{crc_bit, crc_bits, crc_bytes, crc32c, pieces}
-use Rattle.rk_bytes.specs.Model.DiskImages.{Directory}
 use Rattle.rk_bytes.specs.Model.FileNames.{log_name, name_of, current_manifest}
 use Rattle.rk_bytes.specs.Model.LogMarks.{log_marks, blocks_marks, block_len, marks_from, fragment_found, found}
 use Rattle.rk_bytes.specs.Model.WriteBatch.{batch_of}
-use Rattle.rk_bytes.specs.Model.Grammar.{KeyWord, key_bytes, Command, scan, get, dump_wal, command_of, scan_of, get_of, dump_wal_of, check_of, sst_of, drill_of}
+use Rattle.rk_bytes.specs.Model.Grammar.{KeyWord, key_bytes, scan, get, dump_wal, command_of, scan_of, get_of, dump_wal_of, check_of, sst_of, drill_of}
 use Rattle.rk_bytes.specs.Model.Lines.{line, row_line, quoted, batch_lines, edit_lines}
 use Rattle.rk_bytes.specs.Model.Output.{Output, written, dump_wal_output, state_of, scan_output, get_output, command_output, output}
 

@@ -1,6 +1,6 @@
 -- Directories that are salvaged and repaired, small enough to be computed (this project's own examples). Their
 -- bytes were made outside.
-use Rattle.std.specs.Prelude.{◌≡◌, ℕ, List, [], ◌∷◌, ◌++◌, map, replicate, Result, Ok, Err, codes, T, refl}
+use Rattle.std.specs.Prelude.{◌≡◌, ℕ, List, [], ◌∷◌, ◌++◌, replicate, Result, Ok, codes, T, refl}
 use Rattle.std.specs.Ordering.{nat_cmp}
 use Rattle.std.specs.Cmp.Lexicographic.{slice_cmp}
 use Rattle.std.specs.FinMap.{is_sorted, from_sorted, entries-from_sorted}
@@ -8,7 +8,6 @@ use Rattle.std.specs.Fmt.{digits}
 use Rattle.rk_bytes.specs.declared.model.key.Kind.TheVariants.{Value}
 use Rattle.rk_bytes.specs.declared.model.key.Record.{Record}
 use Rattle.rk_bytes.specs.declared.model.salvage.SurveyErr.{SurveyErr}
-use Rattle.rk_bytes.specs.declared.model.salvage.FamilyName.{FamilyName}
 use Rattle.rk_bytes.specs.declared.model.salvage.Moved.{Moved}
 use Rattle.rk_bytes.specs.declared.model.salvage.Report.{Report}
 use Rattle.rk_bytes.specs.Model.Numbers.{in_turn}
@@ -21,8 +20,7 @@ use Rattle.rk_bytes.specs.Model.TableFooter.{footer_of, checked_block}
 use Rattle.rk_bytes.specs.Model.TableStatus.{table_with, table_status}
 use Rattle.rk_bytes.specs.Model.WriteBatch.{batch_of}
 use Rattle.rk_bytes.specs.Model.Records.{slot_cmp}
-use Rattle.rk_bytes.specs.Model.DiskImages.{Directory}
-use Rattle.rk_bytes.specs.Model.Salvage.{Files, readable_records, table_part, numbered, greatest_number, agreeing, placed, last_in_order, tables_in, logs_in, known_families, remainder_of, taken_records, of_files, free_lost_name, moves, report, repair_report}
+use Rattle.rk_bytes.specs.Model.Salvage.{Files, readable_records, table_part, numbered, greatest_number, agreeing, placed, last_in_order, tables_in, logs_in, remainder_of, taken_records, of_files, free_lost_name, moves, report, repair_report}
 
 -- a table of `a` = `x` at sequence 1
 good_table : List ℕ
