@@ -1,5 +1,6 @@
 mod BatchLaw
 mod BatchLemmas
+mod BestRefusals
 mod BestVector
 mod BlockLaw
 mod BlockLemmas

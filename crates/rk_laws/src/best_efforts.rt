@@ -1,9 +1,13 @@
 //! Laws of best-efforts opening.
-ghost use Rattle.std.specs.Prelude.{◌≡◌, ℕ, suc, ◌<◌, Bool, true, false, List, length, map, take, is_ok};
+ghost use Rattle.std.specs.Prelude.{◌≡◌, ◌⊎◌, ℕ, suc, ◌<◌, Bool, true, false, List, length, map, take, is_ok, Err};
 ghost use Rattle.rk_bytes.specs.declared.model.manifest.FileMeta.{FileMeta};
+ghost use Rattle.rk_bytes.specs.declared.model.open.OpenErr.{OpenErr};
+ghost use Rattle.rk_bytes.specs.declared.model.open.OpenErr.TheVariants.{UnsupportedTable, NoUsableManifest};
+ghost use Rattle.rk_bytes.specs.declared.model.table.TableWhat.{TableWhat};
 ghost use Rattle.rk_bytes.specs.declared.model.view.Point.{Point};
 ghost use Rattle.rk_bytes.specs.Model.Manifest.{ManifestUnit, version_at};
-ghost use Rattle.rk_bytes.specs.Model.BestEfforts.{all_pass, answers_pass, listed, usable, IsGreatest, best_points};
+ghost use Rattle.rk_bytes.specs.Model.Opening.{Files};
+ghost use Rattle.rk_bytes.specs.Model.BestEfforts.{all_pass, answers_pass, listed, usable, IsGreatest, best_points, best_files};
 
 /// Law: whatever test tells which families' files are whole at which point, if only a family without
 /// files passes it at the point 0, the greatest points that qualify are there, and they are those that
@@ -28,4 +32,10 @@ pub fn usable_units()
     ensures front { (units : List ManifestUnit) → usable units ≡ take (length (usable units)) units }
     ensures apply { (units : List ManifestUnit) (point : ℕ) → is_ok (version_at (usable units) point) ≡ true }
     ensures refused { (units : List ManifestUnit) → length (usable units) < length units → is_ok (version_at units (suc (length (usable units)))) ≡ false }
+{}
+
+/// Law: best-efforts opening is refused only where no manifest can be used, or for a table that isn't
+/// supported.
+pub fn best_refusals()
+    ensures { (files : Files) (numbers : List ℕ) (why : OpenErr) → best_files files numbers ≡ Err why → (why ≡ NoUsableManifest) ⊎ ((n : ℕ) × (what : TableWhat) × (why ≡ UnsupportedTable n what)) }
 {}

@@ -19,7 +19,7 @@ mod records;
 mod salvage;
 
 pub use batch::one_batch;
-pub use best_efforts::{answers_of_a_test, one_best_vector, usable_units};
+pub use best_efforts::{answers_of_a_test, best_refusals, one_best_vector, usable_units};
 pub use blocks::{one_block, one_delta_index, one_index};
 pub use checksums::{crc32c_of_appended, mask_round_trip};
 pub use commands::one_command;

@@ -46,24 +46,25 @@ files_at units id point = flat_map (λ live. live.files) (filter (has_id id) (fa
 abbrev pub added_by : List Field → List (FileMeta × Bool)
 added_by edit = map (λ new. (file_meta new, not (list_any drops_family edit))) (filter_map added_in edit)
 
--- the files that units add, in order, and the same without what tells whether they are looked at
+-- the files that units add, in order, each with whether it is looked at
 abbrev pub added_files : List ManifestUnit → List (FileMeta × Bool)
 added_files units = flat_map (λ unit. flat_map added_by unit.edits) units
 
+-- the files that units add, in order
 abbrev pub listed : List ManifestUnit → List FileMeta
 listed units = map (λ added. added.0) (added_files units)
 
--- A test of files, at each point of a family: every file that the family has there passes.
+-- Every file that the family has at the point passes the test.
 abbrev pub all_pass : (FileMeta → Bool) → List ManifestUnit → ℕ → ℕ → Bool
 all_pass is_whole units id point = list_all is_whole (files_at units id point)
 
--- A test that isn't one of files but an answer for each of the files that units add. The file with this number was
--- put where it is by the last one of that number that is looked at.
+-- Instead of a test there may be an answer for each file that units add. The answer for a file in a version is that
+-- of the last one added with its number and looked at.
 abbrev pub answer_for : List ((FileMeta × Bool) × Bool) → ℕ → Bool
 answer_for answers number = unwrap_or (last_or None (map (λ a. a.1) (filter (λ a. a.0.1 && has_number number a.0.0) answers))) false
 
--- Every file that the family has at the point was put there by one whose answer is true. Where the answers are those
--- of a test of files, this is that test (law `answers_of_a_test`).
+-- The answer for every file that the family has at the point is true. Answers that are those of a test say what
+-- the test says (law `answers_of_a_test`).
 abbrev pub answers_pass : List Bool → List ManifestUnit → ℕ → ℕ → Bool
 answers_pass answers units id point =
     let first = zip (added_files (take point units)) answers in list_all (λ file. answer_for first file.number) (files_at units id point)
