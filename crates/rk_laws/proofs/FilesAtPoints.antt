@@ -6,7 +6,6 @@ use Rattle.std.proofs.lemmas.Bool.{eqb-false, ne_eqb, eq-eqb}
 use Rattle.std.proofs.lemmas.Grind.{flat_map-append}
 use Rattle.std.proofs.lemmas.List.{append-nil, take-append-drop, map-append}
 use Rattle.std.proofs.lemmas.List.Elements.{filter-append}
-use Rattle.rk_bytes.specs.declared.model.manifest.ApplyFault.{ApplyFault}
 use Rattle.rk_bytes.specs.declared.model.manifest.ManifestFault.{ManifestFault}
 use Rattle.rk_bytes.specs.declared.model.manifest.ApplyFault.TheVariants.{UnsupportedComparator, FamilyExists, UnknownFamily, DeleteAbsent, AddPresent}
 use Rattle.rk_bytes.specs.declared.model.manifest.FileMeta.{FileMeta}
@@ -17,6 +16,7 @@ use Rattle.rk_bytes.specs.Model.VersionEdit.{Field, NewFile, log_number_in, dele
 use Rattle.rk_bytes.specs.Model.Manifest.{ManifestUnit, stated, first_version, steps_in_order, edit_family, has_other_comparator, has_id, has_name, with_families, add_family, drop_family, family_step, has_number, with_files, delete_step, file_meta, add_meta, add_step, file_steps, risen, with_numbers, edit_step, overlap, unit_step, in_unit, version_after, version_at}
 use Rattle.rk_bytes.specs.Model.BestEfforts.{families_at, files_at, added_by, added_files, listed, all_pass, answer_for, answers_pass}
 use Rattle.rk_laws.proofs.ReadingLemmas.{both_steps, passed, taken}
+use Rattle.rk_laws.proofs.VersionSteps.{known_with, unless_found, no_overlap, in_unit_ok}
 use Rattle.rk_laws.proofs.EachElement.{none_passes, each_so, each_both, each_append, each_filter, each_map, each_flat_map, same_list_all}
 
 abbrev Adds : Type 0
@@ -86,12 +86,6 @@ with_nothing adds families placed = each_so (λ live. AllByRecursion (Put adds) 
 placed_dropped : (adds : Adds) (drops : Bool) (id : ℕ) (version : Version) → Placed adds version.families → Placed adds (cond drops (with_families (drop_family id) version) version).families
 placed_dropped adds true id version placed = each_filter (λ live. AllByRecursion (Put adds) live.files) (λ live. not (has_id id live)) version.families placed
 placed_dropped adds false id version placed = placed
-
-abbrev known_with : ℕ → Version → Option (List ℕ) → Result Version ApplyFault
-known_with id version told = elim told [
-  | Some name ↦ cond (list_any (has_id id) version.families || list_any (has_name name) version.families) (Err (FamilyExists id)) (Ok (with_families (add_family id name) version))
-  | None ↦ cond (list_any (has_id id) version.families) (Ok version) (Err (UnknownFamily id))
-]
 
 placed_known : (adds : Adds) (id : ℕ) (version known : Version) (told : Option (List ℕ)) → known_with id version told ≡ Ok known → Placed adds version.families → Placed adds known.families
 placed_known adds id version known (Some name) e placed =
@@ -208,22 +202,11 @@ placed_edits adds (edit ∷ edits) version next e placed =
     subst (λ (adds : Adds). Placed adds next.families) (append_assoc adds (added_by edit) (flat_map added_by edits))
     (placed_edits (adds ++ added_by edit) edits middle next e1 (placed_edit adds edit version middle middle_is placed))
 
-abbrev unless_found : Option ApplyFault → Version → Result Version ApplyFault
-unless_found found version = elim found [ Some why ↦ Err why | None ↦ Ok version ]
-
-no_overlap : (found : Option ApplyFault) (version next : Version) → unless_found found version ≡ Ok next → version ≡ next
-no_overlap (Some why) version next e = absurd cc
-no_overlap None version next e = cc
-
 placed_unit : (adds : Adds) (unit : ManifestUnit) (version next : Version) → unit_step unit version ≡ Ok next → Placed adds version.families → Placed (adds ++ flat_map added_by unit.edits) next.families
 unfolding unit_step
 placed_unit adds unit version next e placed =
     both_steps (steps_in_order edit_step unit.edits version) (λ middle. unless_found (overlap middle.families) middle) next e λ middle middle_is e1.
     subst (λ (next : Version). Placed (adds ++ flat_map added_by unit.edits) next.families) (no_overlap (overlap middle.families) middle next e1) (placed_edits adds unit.edits version middle middle_is placed)
-
-in_unit_ok : (number : ℕ) (r : Result Version ApplyFault) (next : Version) → in_unit number r ≡ Ok next → r ≡ Ok next
-in_unit_ok number (Ok version) next e = cc
-in_unit_ok number (Err why) next e = absurd cc
 
 placed_version : (adds : Adds) (number : ℕ) (units : List ManifestUnit) (version next : Version) → version_after number units version ≡ Ok next → Placed adds version.families → Placed (adds ++ added_files units) next.families
 unfolding version_after

@@ -27,3 +27,5 @@ mod RestartLemmas
 mod SalvageLemmas
 mod UsableUnits
 mod Varints
+mod VersionOrder
+mod VersionSteps

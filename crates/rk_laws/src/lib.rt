@@ -30,7 +30,7 @@ pub use disk_images::{
 pub use edit::one_edit;
 pub use internal_key::{key_order, key_round_trip};
 pub use log_items::one_parting;
-pub use manifest::one_list_of_units;
+pub use manifest::{one_list_of_units, versions_in_order};
 pub use names::one_name;
 pub use numbers::{one_varint, shortest_varint, varint_round_trip, zigzag_round_trip};
 pub use records::{last_of_appended, slot_order};
