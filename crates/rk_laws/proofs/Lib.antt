@@ -1,15 +1,18 @@
 mod BatchLaw
 mod BatchLemmas
+mod BestRefusals
 mod BestVector
 mod BlockLaw
 mod BlockLemmas
 mod DeltaLemmas
 mod DescentLemmas
 mod DiskLaw
+mod EachElement
 mod EditFields
 mod EditFiles
 mod EditTracked
 mod EntryLemmas
+mod FilesAtPoints
 mod FixedNumbers
 mod InTurn
 mod IndexLaw
@@ -27,4 +30,7 @@ mod RestartLemmas
 mod SalvageFiles
 mod SalvageLemmas
 mod SalvageSteps
+mod UsableUnits
 mod Varints
+mod VersionOrder
+mod VersionSteps

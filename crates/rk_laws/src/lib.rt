@@ -20,7 +20,7 @@ mod replay;
 mod salvage;
 
 pub use batch::one_batch;
-pub use best_efforts::one_best_vector;
+pub use best_efforts::{answers_of_a_test, best_refusals, one_best_vector, usable_units};
 pub use blocks::{one_block, one_delta_index, one_index};
 pub use checksums::{crc32c_of_appended, mask_round_trip};
 pub use commands::one_command;
@@ -31,7 +31,7 @@ pub use disk_images::{
 pub use edit::one_edit;
 pub use internal_key::{key_order, key_round_trip};
 pub use log_items::one_parting;
-pub use manifest::one_list_of_units;
+pub use manifest::{one_list_of_units, versions_in_order};
 pub use names::one_name;
 pub use numbers::{one_varint, shortest_varint, varint_round_trip, zigzag_round_trip};
 pub use records::{last_of_appended, slot_order};
