@@ -13,6 +13,7 @@ mod EntryLemmas
 mod FixedNumbers
 mod InTurn
 mod IndexLaw
+mod KeyViewLemmas
 mod ManifestUnits
 mod NameLemmas
 mod Orders
