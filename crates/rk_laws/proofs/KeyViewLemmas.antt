@@ -39,7 +39,7 @@ unfolding view_records
 shown_alike state family key none = ap deciding (same_filter _ _ (values state.records) (same_tests state.tombs family key (values state.records) none))
 
 -- each record of the entries stands in its own slot
-abbrev InSlots : List (Slot × Record) → Type 0
+abbrev pub InSlots : List (Slot × Record) → Type 0
 InSlots es = AllByRecursion (λ e. slot_of e.1 ≡ e.0) es
 
 put_in_slot : (r : Record) (es : List (Slot × Record)) → InSlots es → InSlots (put slot_cmp (slot_of r) r es)
@@ -51,7 +51,7 @@ put_in_slot r (e ∷ es) in_slots = by (slot_cmp (slot_of r) e.0) refl (put_in_s
     by Equal is later = (slot_cmp-only_equal (slot_of r) e.0 is, in_slots.1)
     by Greater is later = (in_slots.0, later)
 
-placed_in_slots : (records : List Record) → InSlots (placed (map entry_of records))
+pub placed_in_slots : (records : List Record) → InSlots (placed (map entry_of records))
 unfolding placed
 placed_in_slots [] = tt
 placed_in_slots (r ∷ records) = put_in_slot r (placed (map entry_of records)) (placed_in_slots records)

@@ -17,6 +17,7 @@ mod KeyViewLemmas
 mod LostNames
 mod ManifestUnits
 mod NameLemmas
+mod OpeningLemmas
 mod Orders
 mod PartingLemmas
 mod Readers

@@ -83,7 +83,7 @@ found_try name q tried (suc more) e = by (bytes_eq q (lost_name name tried)) (by
 some_free : (name : List ℕ) (taken : List (List ℕ)) → length taken < 2 ^ 64 → ¬ ((k : ℕ) → k ≤ length taken → list_any (bytes_eq (lost_name name k)) taken ≡ true)
 some_free name taken fit all =
     let within : (q : List ℕ) → list_any (bytes_eq q) (lost_names name 0 (length taken)) ≡ true → list_any (bytes_eq q) taken ≡ true =
-        (λ q e. let at = found_try name q 0 (length taken) e in ap (λ q. list_any (bytes_eq q) taken) at.2 ∙ all at.0 (omega (arith, at.1))) in
+    (λ q e. let at = found_try name q 0 (length taken) e in ap (λ q. list_any (bytes_eq q) taken) at.2 ∙ all at.0 (omega (arith, at.1))) in
     let few : length (lost_names name 0 (length taken)) ≤ length taken = length-le_from_is_member nat_list_eq_equiv (lost_names name 0 (length taken)) taken (distinct_names name 0 (length taken) (omega arith)) within in
     absurd (omega (arith, few, count_names name 0 (length taken)))
 
@@ -131,7 +131,7 @@ first_free name taken d tried (suc more) before = by (list_any (bytes_eq (lost_n
 
     by : (t : Bool) → list_any (bytes_eq (lost_name name tried)) taken ≡ t
         → (((k : ℕ) → k < suc tried → IsTaken name taken k)
-            → IsFreeLostName name taken (unwrap_or (find (λ lost. not (list_any (bytes_eq lost) taken)) (lost_names name (suc tried) more)) d) ⊎ ((k : ℕ) → k ≤ suc tried + more → IsTaken name taken k))
+        → IsFreeLostName name taken (unwrap_or (find (λ lost. not (list_any (bytes_eq lost) taken)) (lost_names name (suc tried) more)) d) ⊎ ((k : ℕ) → k ≤ suc tried + more → IsTaken name taken k))
         → IsFreeLostName name taken (unwrap_or (cond (not t) (Some (lost_name name tried)) (find (λ lost. not (list_any (bytes_eq lost) taken)) (lost_names name (suc tried) more))) d) ⊎ ((k : ℕ) → k ≤ tried + suc more → IsTaken name taken k)
     by true is go_on = later (go_on (up_to (IsTaken name taken) tried before is))
     by false is go_on = inl (free_at name taken tried before is)

@@ -16,6 +16,7 @@ mod log_items;
 mod manifest;
 mod names;
 mod numbers;
+mod opening;
 mod records;
 mod replay;
 mod salvage;
@@ -26,7 +27,9 @@ pub use blocks::{one_block, one_delta_index, one_index};
 pub use checksums::{crc32c_of_appended, mask_round_trip};
 pub use commands::one_command;
 pub use descent::{descends_from_itself, descent_goes_through, ready_after_a_stop};
-pub use disk_images::{contents_at_rest, image_of_an_image, images_of_synced_names, one_image_at_rest};
+pub use disk_images::{
+    contents_at_rest, image_of_an_image, images_of_synced_names, one_image_at_rest,
+};
 pub use edit::one_edit;
 pub use internal_key::{key_order, key_round_trip};
 pub use key_view::{nothing_hidden, rows_rise};
@@ -34,6 +37,7 @@ pub use log_items::one_parting;
 pub use manifest::one_list_of_units;
 pub use names::one_name;
 pub use numbers::{one_varint, shortest_varint, varint_round_trip, zigzag_round_trip};
+pub use opening::{top_of_the_records, undamaged_opens_alike};
 pub use records::{last_of_appended, slot_order};
 pub use replay::{no_log_adds_nothing, undamaged_logs_add_alike};
 pub use salvage::{nothing_to_add, one_free_lost_name, records_in_order};
