@@ -1,25 +1,25 @@
 -- What is shown of a key, and the rows of a family.
-use Rattle.std.proofs.Common.{◌≡◌, ℕ, ◌+◌, ◌<◌, Bool, true, false, not, T, List, [], ◌∷◌, ◌++◌, map, reverse, All, cond, refl, sym, ap, subst, ◌∙◌, arith}
+use Rattle.std.proofs.Common.{◌≡◌, ℕ, ◌+◌, Bool, true, false, not, T, List, [], ◌∷◌, map, reverse, All, cond, refl, sym, ap, subst, ◌∙◌, arith}
 use Rattle.std.proofs.lemmas.List.Elements.{All-nil, All-cons}
 use Rattle.std.proofs.lemmas.List.Kept.{AllPairs-cons, IsStrictlySortedBy-filter, IsStrictlySortedBy-dedup}
 use Rattle.std.proofs.lemmas.Map.Text.{is_eq-slice_cmp}
 use Rattle.std.proofs.lemmas.Bool.{eqb-true}
-use Rattle.std.specs.Prelude.{Option, Some, None, filter, filter_map, bytes_eq, ◌&&◌, ◌==◌, nat_eq}
-use Rattle.std.specs.List.{AllByRecursion, AllPairs, cons_option, list_any, dedup}
+use Rattle.std.specs.Prelude.{Option, filter, filter_map, ◌&&◌, ◌==◌}
+use Rattle.std.specs.List.{AllByRecursion, AllPairs, cons_option}
 use Rattle.std.specs.List.Sorted.{IsSorted, IsStrictlySortedBy}
 use Rattle.std.specs.declared.cmp.Ordering.{Ordering}
 use Rattle.std.specs.declared.cmp.Ordering.TheVariants.{Less, Equal, Greater}
-use Rattle.std.specs.Ordering.{is_lt, is_eq, eq_by_cmp, nat_cmp, ordering_then, ordering_reverse}
-use Rattle.std.specs.Cmp.{IsTotalOrder, nat_cmp_total, tied_itself}
+use Rattle.std.specs.Ordering.{is_lt, nat_cmp, ordering_then, ordering_reverse}
+use Rattle.std.specs.Cmp.{nat_cmp_total, tied_itself}
 use Rattle.std.specs.Cmp.Lexicographic.{slice_cmp, nat_list_cmp_total}
 use Rattle.std.specs.FinMap.{entries, entries_sorted, values}
 use Rattle.std.specs.FinMap.Entries.{put, is_sorted, below_all, by_order}
 use Rattle.rk_bytes.specs.declared.model.key.Record.{Record}
 use Rattle.rk_bytes.specs.declared.model.view.Tomb.{Tomb}
-use Rattle.rk_bytes.specs.Model.Records.{Slot, slot_cmp, slot_of, RecordMap, last_records}
-use Rattle.rk_bytes.specs.Model.Salvage.{placed, last_placed}
-use Rattle.rk_bytes.specs.Model.KeyView.{State, Answer, found, absent, merge, Row, is_of_key, is_covered, uncovered, deciding, view_records, answer, keys_in, is_between, row_of, rows}
-use Rattle.rk_laws.proofs.Orders.{slot_cmp-total, slot_cmp-only_equal}
+use Rattle.rk_bytes.specs.Model.Records.{Slot, slot_cmp, slot_of, last_records}
+use Rattle.rk_bytes.specs.Model.Salvage.{placed}
+use Rattle.rk_bytes.specs.Model.KeyView.{State, Answer, found, absent, merge, is_of_key, is_covered, deciding, view_records, answer, keys_in, is_between, row_of, rows}
+use Rattle.rk_laws.proofs.Orders.{slot_cmp-only_equal}
 use Rattle.rk_laws.proofs.RecordMaps.{entry_of}
 use Rattle.rk_laws.proofs.SalvageLemmas.{last_placed-entries}
 

@@ -14,6 +14,7 @@ mod FixedNumbers
 mod InTurn
 mod IndexLaw
 mod KeyViewLemmas
+mod KeyViewRows
 mod LostNames
 mod ManifestUnits
 mod NameLemmas

@@ -1,7 +1,7 @@
 -- What an opened directory tells of its records, and the modes that open alike.
-use Rattle.std.proofs.Common.{◌≡◌, ℕ, ◌+◌, ◌*◌, ◌<◌, List, [], ◌∷◌, ◌++◌, map, reverse, refl, sym, ap, subst, ◌∙◌, arith}
-use Rattle.std.proofs.lemmas.List.{reverse-append, reverse-reverse}
-use Rattle.std.specs.Prelude.{max, fold, filter, flat_map, nat_le, Result, Ok, Err}
+use Rattle.std.proofs.Common.{◌≡◌, ℕ, List, [], ◌∷◌, ◌++◌, map, reverse, refl, sym, ap, subst, ◌∙◌, arith}
+use Rattle.std.proofs.lemmas.List.{reverse-append}
+use Rattle.std.specs.Prelude.{max, fold, filter, flat_map, nat_le, Result, Ok}
 use Rattle.std.specs.declared.cmp.Ordering.{Ordering}
 use Rattle.std.specs.declared.cmp.Ordering.TheVariants.{Less, Equal, Greater}
 use Rattle.std.specs.FinMap.{entries, get, values}
@@ -11,15 +11,14 @@ use Rattle.rk_bytes.specs.declared.model.manifest.Version.{Version}
 use Rattle.rk_bytes.specs.declared.model.open.OpenErr.{OpenErr}
 use Rattle.rk_bytes.specs.declared.model.open.OpenErr.TheVariants.{Wal}
 use Rattle.rk_bytes.specs.declared.model.wal.Mode.{Mode}
-use Rattle.rk_bytes.specs.declared.model.wal.Mode.TheVariants.{TolerateTail, Absolute, SkipAny}
-use Rattle.rk_bytes.specs.declared.model.wal.WalErr.{WalErr}
+use Rattle.rk_bytes.specs.declared.model.wal.Mode.TheVariants.{Absolute}
 use Rattle.rk_bytes.specs.Model.Numbers.{◌>>=◌}
 use Rattle.rk_bytes.specs.Model.BlockEntries.{with_fault, collected}
 use Rattle.rk_bytes.specs.Model.DiskImages.{Directory}
-use Rattle.rk_bytes.specs.Model.InternalKey.{kind_number, packed_of}
+use Rattle.rk_bytes.specs.Model.InternalKey.{packed_of}
 use Rattle.rk_bytes.specs.Model.Records.{Slot, slot_cmp, slot_of, last_records}
 use Rattle.rk_bytes.specs.Model.Manifest.{first_log}
-use Rattle.rk_bytes.specs.Model.Salvage.{placed, last_placed}
+use Rattle.rk_bytes.specs.Model.Salvage.{placed}
 use Rattle.rk_bytes.specs.Model.Replay.{Log, Replayed, replay}
 use Rattle.rk_bytes.specs.Model.Opening.{Files, Opened, TableFile, greatest_sequence, table_records, table_file, tracked_log, listed_tables, named_manifest, version_in, logs_of, opened, open_files, open_directory}
 use Rattle.rk_laws.proofs.Orders.{slot_cmp-only_equal}
@@ -27,7 +26,6 @@ use Rattle.rk_laws.proofs.RecordMaps.{entry_of}
 use Rattle.rk_laws.proofs.ReadingLemmas.{both_steps, first_step, with_fault_ok}
 use Rattle.rk_laws.proofs.SalvageLemmas.{kind_number-small, last_placed-entries}
 use Rattle.rk_laws.proofs.KeyViewLemmas.{InSlots, placed_in_slots}
-use Rattle.rk_laws.proofs.ReplayLaw.{tolerate_tail-never, skip_any-never, never-added}
 
 -- the greatest of numbers after others
 max_from : (a : ℕ) (ns : List ℕ) → fold max a ns ≡ max a (fold max 0 ns)

@@ -32,7 +32,7 @@ pub use disk_images::{
 };
 pub use edit::one_edit;
 pub use internal_key::{key_order, key_round_trip};
-pub use key_view::{nothing_hidden, rows_rise};
+pub use key_view::{nothing_hidden, rows_are_what_is_shown, rows_rise};
 pub use log_items::one_parting;
 pub use manifest::one_list_of_units;
 pub use names::one_name;
