@@ -35,17 +35,20 @@ use Rattle.rk_bytes.specs.Model.Records.{RecordMap, last_records}
 use Rattle.rk_bytes.specs.Model.Replay.{replay}
 use Rattle.rk_bytes.specs.Model.Opening.{Opened, logs_of, table_file, open_files, open_directory}
 
--- A directory as a list of its files in the order of their names, and what it is opened to, computed.
+-- a directory as a list of its files
 abbrev pub FileList : Type 0
 FileList = List (List ℕ × List ℕ)
 
+-- the files stand in the order of their names
 abbrev pub in_name_order : FileList → Type 0
 in_name_order files = T (is_sorted (slice_cmp nat_cmp) files)
 
+-- what the directory is opened to, computed
 pub opened : Mode → FileList → Result Opened OpenErr
 unfolding open_files table_file replay log_marks blocks_marks marks_from found fragment_found block_len pieces crc32c crc_bytes crc_bits crc_bit batch_of in_turn name_of digits current_manifest edits_of edit_fields after_customs synced_sizes_at parted_units steps_in_order edit_step overlap unit_step version_after table_status table_with footer_of checked_block internal_key block_entries entries_after property_list range_list index_entries
 opened mode files = open_files mode (λ name. find (slice_cmp nat_cmp) name files) (logs_of files)
 
+-- it is what the definition says
 pub opens : (mode : Mode) (files : FileList) → in_name_order files → open_directory mode (from_sorted files) ≡ opened mode files
 unfolding opened
 opens mode files order = λ i. open_files mode (λ name. get-from_sorted (slice_cmp nat_cmp) files name order i) (logs_of (entries-from_sorted (slice_cmp nat_cmp) files order i))
@@ -205,6 +208,7 @@ pub record Held : Type 0 where
   pub tombs : List Tomb
   pub top : ℕ
 
+-- what is looked at of what is opened
 abbrev held : Result Opened OpenErr → Result Held OpenErr
 held (Ok opened) = Ok (record { records = opened.state.records; tombs = opened.state.tombs; top = opened.top })
 held (Err why) = Err why
