@@ -1,5 +1,5 @@
 -- What a database shows of a key (RocksDB's wiki, "DeleteRange" and "Merge Operator Implementation";
--- db/get_context.cc). That a range deletion of a table acts between the bounds of its file alone is
+-- table/get_context.cc). That a range deletion of a table acts between the bounds of its file alone is
 -- db/range_del_aggregator.cc. Merge operands are shown and never combined, which is this project's own rule.
 use Rattle.std.specs.Prelude.{◌≡◌, ℕ, ◌-◌, ◌^◌, ◌==◌, Bool, true, false, not, ◌&&◌, List, [], ◌∷◌, ◌++◌, length, map, take, drop, filter, filter_map, find, take_while, sum, min, max, nat_lt, Option, Some, None, option_map, bytes_eq, codes, T, refl}
 use Rattle.std.specs.List.{list_any, reduce, dedup}

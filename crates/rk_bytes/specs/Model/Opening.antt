@@ -1,6 +1,7 @@
 -- What a directory is opened to, or the first reason why it isn't (db/db_impl/db_impl_open.cc,
--- db/version_set.cc). The order of the refusals, that each block of every listed table is tested and its records
--- against the stated bounds, and the tracked logs' tests are this project's own rules.
+-- db/version_set.cc; db/wal_edit.cc on tracked logs). The order of the refusals, that each block of every listed
+-- table is tested and its records against the stated bounds, and that a tracked log below the first one that is
+-- needed isn't looked at are this project's own rules.
 use Rattle.std.specs.Prelude.{◌≡◌, ℕ, ◌==◌, max, Bool, List, [], ◌∷◌, ◌++◌, length, map, flat_map, filter, filter_map, fold, nat_lt, nat_le, if◌then◌else◌, Option, Some, None, ok_or, Result, Ok, Err, codes, refl}
 use Rattle.std.specs.List.{list_all}
 use Rattle.std.specs.FinMap.{get, entries}
