@@ -227,6 +227,18 @@ of_four_keys : rows (state_of four_keys (cut_before_c ∷ [])) 0 None None ≡ r
 unfolding rows state_of placed four_keys of_default view_records cut_before_c covers internal_key slot_cmp
 of_four_keys = of_values (λ records. filter_map (λ key. row_of key (shown (deciding (uncovered (cut_before_c ∷ []) 0 key records)))) (filter (is_between None None) (keys_in records 0))) four_keys tt
 
+of_a_count : key_count (state_of four_keys (cut_before_c ∷ [])) ≡ 2
+unfolding state_of
+of_a_count = λ i. min (sum (length (of_four_keys i) ∷ [])) (2 ^ 64 - 1)
+
+-- of two families with one name the lower id counts
+of_names : map (family_named (record {
+  families = record { id = 0; name = codes "default"; log = 3; files = 1 } ∷ record { id = 7; name = codes "x"; log = 3; files = 0 } ∷ record { id = 9; name = codes "x"; log = 3; files = 0 } ∷ [];
+  records = from_sorted [];
+  tombs = [];
+})) (codes "x" ∷ codes "default" ∷ codes "y" ∷ []) ≡ Some 7 ∷ Some 0 ∷ None ∷ []
+of_names = refl
+
 -- An empty lower bound leaves every key in, an empty upper one none.
 of_bounds : map (λ (bounds : Option (List ℕ) × Option (List ℕ)). map (is_between bounds.0 bounds.1) (codes "a" ∷ codes "b" ∷ codes "bb" ∷ codes "c" ∷ [])) ((Some (codes "b"), Some (codes "c")) ∷ (Some [], None) ∷ (None, Some []) ∷ [])
     ≡ (false ∷ true ∷ true ∷ false ∷ []) ∷ (true ∷ true ∷ true ∷ true ∷ []) ∷ (false ∷ false ∷ false ∷ false ∷ []) ∷ []
