@@ -24,7 +24,7 @@ use Rattle.rk_bytes.specs.Model.Numbers.{fixed_of, prefixed_of, in_turn}
 use Rattle.rk_bytes.specs.Model.Checksums.{pieces, crc_bit, crc_bits, crc_bytes, crc32c}
 use Rattle.rk_bytes.specs.Model.LogMarks.{found, block_len, marks_from, fragment_found, blocks_marks, log_marks}
 use Rattle.rk_bytes.specs.Model.LogItems.{Item, rec, gap, end, log_items}
-use Rattle.rk_bytes.specs.Model.WriteBatch.{Batch, changes, change_count, batch_of}
+use Rattle.rk_bytes.specs.Model.WriteBatch.{Batch, change, changes, change_count, batch_of}
 use Rattle.rk_bytes.specs.Model.Manifest.{has_id}
 
 -- a log's file
@@ -301,7 +301,17 @@ of_a_log_of_older_records : replay_in Absolute (two_families 0) (record { number
 unfolding replay_in two_families table_4 two_puts put_batch log_record
 of_a_log_of_older_records = refl
 
--- an earlier life of log 5 stops replay, and no family is ahead of it
-of_a_stale_end : replay_counted PointInTime (two_families 8) (record { log = 5; found = stale_end ∷ [] } ∷ []) ≡ Ok (record { records = []; expected = 1; stopped = Some 5 })
-unfolding two_families table_4
-of_a_stale_end = refl
+-- what is found in three logs, each with one put, of which the first ends at an earlier life of its file
+stale_logs : List Findings
+unfolding put_of
+stale_logs =
+    record { log = 5; found = batch (record { sequence = 1; parts = change 12 (put_of 1 (codes "a") []) ∷ [] }) ∷ stale_end ∷ [] }
+    ∷ record { log = 6; found = batch (record { sequence = 9; parts = change 12 (put_of 9 (codes "b") []) ∷ [] }) ∷ clean_end ∷ [] }
+    ∷ record { log = 7; found = batch (record { sequence = 2; parts = change 12 (put_of 2 (codes "c") []) ∷ [] }) ∷ clean_end ∷ [] } ∷ []
+
+-- An earlier life of log 5 stops replay, and no family is ahead of it. Log 6 doesn't go on, and log 7 does.
+of_stale_ends : map (λ logs. replay_counted PointInTime (two_families 8) (counted PointInTime (two_families 8) logs)) (take 1 stale_logs ∷ take 2 stale_logs ∷ stale_logs ∷ [])
+    ≡ replicate 2 (Ok (record { records = put_of 1 (codes "a") [] ∷ []; expected = 2; stopped = Some 5 }))
+    ++ Ok (record { records = put_of 1 (codes "a") [] ∷ put_of 2 (codes "c") [] ∷ []; expected = 3; stopped = None }) ∷ []
+unfolding two_families table_4 stale_logs put_of
+of_stale_ends = refl

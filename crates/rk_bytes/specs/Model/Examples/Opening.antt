@@ -245,17 +245,18 @@ tracked : List ℕ → List (List ℕ × List ℕ) → FileList
 unfolding current manifest log_record
 tracked more logs = logs ++ current (codes "MANIFEST-000002\n") ∷ manifest (log_record 0x5f01a445 (0x87 ∷ 0x40 ∷ 4 ∷ 3 ∷ 2 ∷ 48 ∷ 1 ∷ []) ++ more) ∷ []
 
--- In the last of them a later edit forgets the logs below 4.
+-- In the last two of them a later edit forgets the logs below 4, or says that 4 is the first log that is needed.
 tracked_logs : List FileList
 unfolding tracked log_3 log_record
 tracked_logs =
-    tracked [] (log_3 48 ∷ []) ∷ tracked [] (log_3 47 ∷ []) ∷ tracked [] [] ∷ tracked (log_record 0x1c66808c (0x88 ∷ 0x40 ∷ 1 ∷ 4 ∷ [])) [] ∷ []
+    tracked [] (log_3 48 ∷ []) ∷ tracked [] (log_3 47 ∷ []) ∷ tracked [] [] ∷ tracked (log_record 0x1c66808c (0x88 ∷ 0x40 ∷ 1 ∷ 4 ∷ [])) []
+    ∷ tracked (log_record 0xd06d36cd (2 ∷ 4 ∷ [])) (log_3 47 ∷ []) ∷ []
 
 of_tracked_logs : map held (open_all tracked_logs)
     ≡ Ok (record { records = last_records (put_of 1 (codes "a") (codes "1") ∷ put_of 2 (codes "b") (codes "2") ∷ []); tombs = []; top = 2 })
-    ∷ Err (ShortLog 3 48 47) ∷ Err (MissingLog 3) ∷ Ok (record { records = last_records []; tombs = []; top = 0 }) ∷ []
+    ∷ Err (ShortLog 3 48 47) ∷ Err (MissingLog 3) ∷ replicate 2 (Ok (record { records = last_records []; tombs = []; top = 0 }))
 unfolding all_opened opened tracked_logs tracked log_3 current manifest log_record put_batch put_of
-of_tracked_logs = λ i. map held (opens_all tracked_logs (tt, (tt, (tt, (tt, tt)))) i)
+of_tracked_logs = λ i. map held (opens_all tracked_logs (tt, (tt, (tt, (tt, (tt, tt))))) i)
 
 -- A second family with table 4 and log number 8, and the logs 5 and 7, of which the second doesn't go on with the
 -- first.
