@@ -18,6 +18,7 @@ mod KeyViewRows
 mod LostNames
 mod ManifestUnits
 mod NameLemmas
+mod NumberOrder
 mod OpeningLemmas
 mod Orders
 mod PartingLemmas

@@ -47,11 +47,11 @@ Unstopped mode logs = AllByRecursion (λ log. stop_in mode log ≡ None) logs
 abbrev AreWhole : Mode → List Findings → Type 0
 AreWhole mode logs = AllByRecursion (λ log. batches mode log ≡ all_batches log) logs
 
-all_append : {A : Type 0} (P : A → Type 0) (xs ys : List A) → AllByRecursion P xs → AllByRecursion P ys → AllByRecursion P (xs ++ ys)
+pub all_append : {A : Type 0} (P : A → Type 0) (xs ys : List A) → AllByRecursion P xs → AllByRecursion P ys → AllByRecursion P (xs ++ ys)
 all_append P [] ys p q = q
 all_append P (x ∷ xs) ys p q = (p.0, all_append P xs ys p.1 q)
 
-all_map : {A : Type 0} (P Q : A → Type 0) → ((x : A) → P x → Q x) → (xs : List A) → AllByRecursion P xs → AllByRecursion Q xs
+pub all_map : {A : Type 0} (P Q : A → Type 0) → ((x : A) → P x → Q x) → (xs : List A) → AllByRecursion P xs → AllByRecursion Q xs
 all_map P Q more [] p = tt
 all_map P Q more (x ∷ xs) p = (more x p.0, all_map P Q more xs p.1)
 

@@ -37,7 +37,7 @@ pub use log_items::one_parting;
 pub use manifest::one_list_of_units;
 pub use names::one_name;
 pub use numbers::{one_varint, shortest_varint, varint_round_trip, zigzag_round_trip};
-pub use opening::{top_of_the_records, undamaged_opens_alike};
+pub use opening::{things_in_order, top_of_the_records, undamaged_opens_alike};
 pub use records::{last_of_appended, slot_order};
 pub use replay::{no_log_adds_nothing, undamaged_logs_add_alike};
 pub use salvage::{nothing_to_add, one_free_lost_name, records_in_order};

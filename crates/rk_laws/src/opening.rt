@@ -1,10 +1,20 @@
 //! Laws of opening.
-ghost use Rattle.std.specs.Prelude.{◌≡◌, Ok};
+ghost use Rattle.std.specs.Prelude.{◌≡◌, ℕ, List, Ok};
+ghost use Rattle.std.specs.List.Sorted.{IsPermutation, IsNonDecreasingBy};
 ghost use Rattle.std.specs.FinMap.{values};
 ghost use Rattle.rk_bytes.specs.declared.model.wal.Mode.{Mode};
 ghost use Rattle.rk_bytes.specs.declared.model.wal.Mode.TheVariants.{TolerateTail, Absolute, SkipAny};
 ghost use Rattle.rk_bytes.specs.Model.DiskImages.{Directory};
-ghost use Rattle.rk_bytes.specs.Model.Opening.{Opened, greatest_sequence, open_directory};
+ghost use Rattle.rk_bytes.specs.Model.Replay.{Log};
+ghost use Rattle.rk_bytes.specs.Model.Opening.{Opened, Listed, in_order, greatest_sequence, open_directory};
+
+/// Law: things in the order of their numbers are those things, and their numbers don't fall.
+pub fn things_in_order()
+    ensures same { (number : Log → ℕ) (logs : List Log) → IsPermutation logs (in_order number logs) }
+    ensures same_tables { (number : Listed → ℕ) (tables : List Listed) → IsPermutation tables (in_order number tables) }
+    ensures rising { (number : Log → ℕ) (logs : List Log) → IsNonDecreasingBy number (in_order number logs) }
+    ensures rising_tables { (number : Listed → ℕ) (tables : List Listed) → IsNonDecreasingBy number (in_order number tables) }
+{}
 
 /// Law: the greatest sequence number that is told of an opened directory is that of its record map.
 pub fn top_of_the_records()
