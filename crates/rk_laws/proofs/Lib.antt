@@ -13,6 +13,7 @@ mod EntryLemmas
 mod FixedNumbers
 mod InTurn
 mod IndexLaw
+mod LostNames
 mod ManifestUnits
 mod NameLemmas
 mod Orders
@@ -20,6 +21,8 @@ mod PartingLemmas
 mod Readers
 mod ReadingLemmas
 mod RecordMaps
+mod ReplayLaw
+mod ReplayLemmas
 mod RestartLemmas
 mod SalvageLemmas
 mod Varints

@@ -1,7 +1,11 @@
+pub mod DataBlocks
 pub mod Directories
 pub mod Drill
+pub mod DrillLogs
 pub mod Opening
 pub mod Output
+pub mod Properties
 pub mod Repair
 pub mod Salvage
+pub mod Tables
 pub mod Writers
