@@ -30,7 +30,7 @@ use Rattle.rk_bytes.specs.Model.Opening.{Files, Opened, Best as BestOpened, Tabl
 use Rattle.rk_bytes.specs.Model.BestEfforts.{number_of_manifest, usable_units, are_complete, best_points, all_pass, is_whole_in, tables_at, best_line, last_families, best_with, best_files}
 use Rattle.rk_bytes.specs.Model.Drill.{drill_files, drill_directory}
 use Rattle.rk_bytes.specs.Model.TableStatus.{is_range_deletion}
-use Rattle.rk_bytes.specs.Model.Salvage.{placed, last_placed, last_in_order, tables_in, logs_in, known_families, taken_records, report, of_files, salvage_families, salvage_records, repair_report}
+use Rattle.rk_bytes.specs.Model.Salvage.{placed, last_placed, last_in_order, found_files, known_families, taken_records, report_of_files, salvage_families, salvage_records, repair_report}
 use Rattle.rk_bytes.specs.Model.Grammar.{KeyWord, key_bytes, Command, scan, get as get_key, families, manifest_dump, dump_wal, check, repair, sst, drill, all_modes}
 use Rattle.rk_bytes.specs.Model.Lines.{row_line, answer_line, manifest_line, point_line, ok_line, count_words, mode_line, best_efforts_line, drill_line, refused_words, open_err_words}
 use Rattle.rk_bytes.specs.Model.Output.{Output, written, refused, unless_refused, dump_wal_output, manifest_dump_output, families_output, sst_output, state_of, of_family, scan_output, answer_status, get_output, counts_line, check_output, repair_output, salvage_state, state_counts, opened_counts, repair_line, drill_output, command_output}
@@ -335,33 +335,33 @@ tombs_among records = map (tomb_of None) (filter (λ r. is_range_deletion r.kind
 
 -- the salvage of files
 unfoldable pub salvage_in : Listing → Listed
-salvage_in files = let taken = taken_records (tables_in files) (logs_in files) in
-    record { families = salvage_lines (known_families (tables_in files)); records = taken; tombs = tombs_among (last_in_order taken) }
+salvage_in files = let taken = taken_records (found_files files) in
+    record { families = salvage_lines (known_families (found_files files)); records = taken; tombs = tombs_among (last_in_order taken) }
 
 -- has the counts of the salvage of the directory
 salvage_same : (d : Directory) (files : Listing) → entries d ≡ files → state_counts (salvage_state d) ≡ listed_counts (Ok (salvage_in files))
 unfolding listed_counts salvage_in salvage_families salvage_records
 salvage_same d files lists =
     let of_records = λ (lines : List FamilyLine) (taken values : List Record). state_counts (record { families = lines; records = last_records taken; tombs = tombs_among values }) in
-    let taken = taken_records (tables_in files) (logs_in files) in let lines = salvage_lines (known_families (tables_in files)) in
-    (λ i. let there = lists i in let records = taken_records (tables_in there) (logs_in there) in of_records (salvage_lines (known_families (tables_in there))) records (values (last_records records)))
+    let taken = taken_records (found_files files) in let lines = salvage_lines (known_families (found_files files)) in
+    (λ i. let there = lists i in let records = taken_records (found_files there) in of_records (salvage_lines (known_families (found_files there))) records (values (last_records records)))
     ∙ (ap (λ list. of_records lines taken (map (λ (entry : Slot × Record). entry.1) list)) (entries_placed taken) ∙ counts_same (Ok (salvage_in files)))
 
 -- `drill` of listed files
 unfoldable pub drill_listed : ℕ → Listing → Output
 drill_listed n files = written (drill_line n ∷ map (λ mode. mode_line mode (listed_counts (opened_to mode files))) all_modes
-    ++ best_efforts_line (listed_counts (state_to Best files)) ∷ repair_line (of_files report files) ∷ map (λ mode. mode_line mode (listed_counts (Ok (salvage_in files)))) all_modes)
+    ++ best_efforts_line (listed_counts (state_to Best files)) ∷ repair_line (report_of_files files) ∷ map (λ mode. mode_line mode (listed_counts (Ok (salvage_in files)))) all_modes)
 
 -- is that of the directory, in a mode and as a whole
 mode_same : (mode : Mode) (d : Directory) (files : Listing) → entries d ≡ files → opened_counts (state_of (Normal mode) d) ≡ listed_counts (opened_to mode files)
 mode_same mode d files lists = ap opened_counts (state_same (Normal mode) d files lists) ∙ counts_same (opened_to mode files)
 
 drill_same : (n : ℕ) (d : Directory) (files : Listing) → entries d ≡ files → drill_output n d ≡ drill_listed n files
-unfolding drill_listed repair_report
+unfolding drill_listed
 drill_same n d files lists =
     let best = ap opened_counts (state_same Best d files lists) ∙ counts_same (state_to Best files) in
     λ i. written (drill_line n ∷ map (λ mode. mode_line mode (mode_same mode d files lists i)) all_modes
-    ++ best_efforts_line (best i) ∷ repair_line (of_files report (lists i)) ∷ map (λ mode. mode_line mode (salvage_same d files lists i)) all_modes)
+    ++ best_efforts_line (best i) ∷ repair_line (report_of_files (lists i)) ∷ map (λ mode. mode_line mode (salvage_same d files lists i)) all_modes)
 
 -- What a command writes of listed files. A drill looks at none of them, but at its own.
 unfoldable pub on_files : Command → Listing → Output
@@ -372,13 +372,13 @@ on_files (manifest_dump hex) files = manifest_dump_output hex (file_in files)
 on_files (dump_wal n hex) files = dump_wal_output n hex (file_in files (log_name n))
 on_files (check (Normal mode)) files = check_listed (opened_to mode files)
 on_files (check Best) files = check_best_listed (best_to files)
-on_files repair files = repair_output (of_files report files)
+on_files repair files = repair_output (report_of_files files)
 on_files (sst n part hex) files = sst_output n part hex (file_in files (table_name n))
 on_files (drill n) files = drill_listed n (all_put (slice_cmp nat_cmp) (drill_files n))
 
 -- A command writes of a directory what it writes of the list of its files.
 pub by_files : (command : Command) (d : Directory) (files : Listing) → entries d ≡ files → command_output (Some command) d ≡ on_files command files
-unfolding command_output on_files repair_report drill_directory
+unfolding command_output on_files drill_directory
 by_files (scan named how from to hex) d files lists = ap (scan_output named from to hex) (state_same how d files lists) ∙ scan_same named from to hex (state_to how files)
 by_files (get_key key named how hex) d files lists = ap (get_output key named hex) (state_same how d files lists) ∙ get_same key named hex (state_to how files)
 by_files families d files lists = λ i. families_output (λ name. found_in d files lists name i)
@@ -390,6 +390,6 @@ by_files (check (Normal mode)) d files lists =
 by_files (check Best) d files lists =
     ap (unless_refused open_err_words (λ best. written (manifest_line best.manifest best.units ∷ map point_line best.points ++ counts_line best.state ∷ []))) (best_by d files lists ∙ best_listed files)
     ∙ check_best_same (best_to files)
-by_files repair d files lists = λ i. repair_output (of_files report (lists i))
+by_files repair d files lists = λ i. repair_output (report_of_files (lists i))
 by_files (sst n part hex) d files lists = λ i. sst_output n part hex (found_in d files lists (table_name n) i)
 by_files (drill n) d files lists = drill_same n (drill_directory n) (all_put (slice_cmp nat_cmp) (drill_files n)) (entries_put (slice_cmp nat_cmp) nat_list_cmp_total (drill_files n))

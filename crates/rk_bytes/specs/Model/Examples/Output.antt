@@ -24,7 +24,7 @@ use Rattle.rk_bytes.specs.Model.KeyView.{covers}
 use Rattle.rk_bytes.specs.Model.Replay.{replay}
 use Rattle.rk_bytes.specs.Model.Opening.{table_file}
 use Rattle.rk_bytes.specs.Model.BestEfforts.{lowered_until}
-use Rattle.rk_bytes.specs.Model.Salvage.{placed, numbered, greatest_number, agreeing, readable_records, table_part, of_files, free_lost_name, moves}
+use Rattle.rk_bytes.specs.Model.Salvage.{placed, numbered, greatest_number, agreeing, readable_records, table_part, report_of_files, free_lost_name, moves}
 use Rattle.rk_bytes.specs.Model.WrittenLogs.{fragment_bytes, later_fragments, record_fragments, record_pieces, written_record, written_log}
 use Rattle.rk_bytes.specs.Model.Writers.{batch_bytes, grouped, run_bytes, block_bytes, table_bytes, edit_bytes}
 use Rattle.rk_bytes.specs.Model.Drill.{drill_table, drill_manifest, drill_torn_log, drill_log}
@@ -72,7 +72,7 @@ over_listed files texts sorted = λ i. map (λ text. one_listed (command_of (spo
 
 -- all that the lines are computed by
 unfoldable computation : Unit {0}
-unfolding spoken over_one of_lines refusal usage not_found command_of scan_of get_of dump_wal_of check_of sst_of drill_of digits decode_pairs encode_with quoted batch_lines edit_lines batch_of in_turn log_marks blocks_marks block_len marks_from fragment_found found pieces crc32c crc_bytes crc_bits crc_bit answer_in rows_in count_in opened_to best_to scan_listed get_listed check_listed check_best_listed on_files name_of current_manifest internal_key slot_cmp block_entries entries_after index_entries footer_of checked_block table_with table_status after_customs synced_sizes_at edit_fields edits_of parted_units steps_in_order edit_step overlap unit_step version_after covers replay table_file lowered_until placed numbered greatest_number agreeing readable_records table_part of_files free_lost_name moves
+unfolding spoken over_one of_lines refusal usage not_found command_of scan_of get_of dump_wal_of check_of sst_of drill_of digits decode_pairs encode_with quoted batch_lines edit_lines batch_of in_turn log_marks blocks_marks block_len marks_from fragment_found found pieces crc32c crc_bytes crc_bits crc_bit answer_in rows_in count_in opened_to best_to scan_listed get_listed check_listed check_best_listed on_files name_of current_manifest internal_key slot_cmp block_entries entries_after index_entries footer_of checked_block table_with table_status after_customs synced_sizes_at edit_fields edits_of parted_units steps_in_order edit_step overlap unit_step version_after covers replay table_file lowered_until placed numbered greatest_number agreeing readable_records table_part report_of_files free_lost_name moves
 computation = tt
 
 -- all that the directory of a drill is computed by
