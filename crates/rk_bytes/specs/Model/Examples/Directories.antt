@@ -1,12 +1,12 @@
 -- What commands write of a directory whose files are listed, in a form that can be computed: a finite map isn't,
 -- but the list of its entries is. The examples of `Output` stand on it.
-use Rattle.std.specs.Prelude.{◌≡◌, ℕ, ◌-◌, ◌^◌, min, max, sum, Bool, List, [], ◌∷◌, ◌++◌, length, map, filter, filter_map, flat_map, option_map, Option, Some, None, ok_or, Result, Ok, Err, reverse, nat_le, T}
+use Rattle.std.specs.Prelude.{◌≡◌, ℕ, ◌-◌, ◌^◌, min, max, sum, Bool, List, [], ◌∷◌, ◌++◌, length, map, filter, filter_map, flat_map, option_map, Option, Some, None, ok_or, Result, Ok, Err, reverse, nat_le}
 use Rattle.std.specs.List.{reduce}
 use Rattle.std.specs.Ordering.{nat_cmp}
 use Rattle.std.specs.declared.cmp.Ordering.{Ordering}
 use Rattle.std.specs.Cmp.{IsTotalOrder, on_total, back_total, then_total, nat_cmp_total}
 use Rattle.std.specs.Cmp.Lexicographic.{slice_cmp, nat_list_cmp_total}
-use Rattle.std.specs.FinMap.{FinMap, find, put, is_sorted, empty, len, entries, values, get, from_sorted, from_entries, get-entries, entries-from_sorted, empty_of_len, len-entries, entries-insert}
+use Rattle.std.specs.FinMap.{find, put, empty, entries, values, get, from_sorted, from_entries, get-entries, entries-from_sorted, empty_of_len, len-entries, entries-insert}
 use Rattle.std.proofs.Common.{sym, ap, ◌∙◌}
 use Rattle.rk_bytes.specs.declared.model.key.Record.{Record}
 use Rattle.rk_bytes.specs.declared.model.view.FamilyLine.{FamilyLine}
@@ -26,14 +26,14 @@ use Rattle.rk_bytes.specs.Model.Records.{Slot, slot_of, slot_cmp, last_records}
 use Rattle.rk_bytes.specs.Model.Manifest.{ManifestUnit, first_log}
 use Rattle.rk_bytes.specs.Model.KeyView.{State, Row, Answer, rows, view_records, row_of, shown, deciding, uncovered, is_between, keys_in, record_count, key_count, tomb_of, answer}
 use Rattle.rk_bytes.specs.Model.Replay.{replay}
-use Rattle.rk_bytes.specs.Model.Opening.{Files, Opened, Best as BestOpened, TableFile, named_manifest, version_in, listed_tables, table_file, tracked_log, family_line, table_records, table_tombs, log_tombs, logs_of, opened, open_files}
+use Rattle.rk_bytes.specs.Model.Opening.{Opened, Best as BestOpened, TableFile, named_manifest, version_in, listed_tables, table_file, tracked_log, family_line, table_records, table_tombs, log_tombs, logs_of, opened, open_files}
 use Rattle.rk_bytes.specs.Model.BestEfforts.{number_of_manifest, usable_units, are_complete, best_points, all_pass, is_whole_in, tables_at, best_line, last_families, best_with, best_files}
 use Rattle.rk_bytes.specs.Model.Drill.{drill_files, drill_directory}
 use Rattle.rk_bytes.specs.Model.TableStatus.{is_range_deletion}
-use Rattle.rk_bytes.specs.Model.Salvage.{placed, last_placed, last_in_order, found_files, known_families, taken_records, report_of_files, salvage_families, salvage_records, repair_report}
+use Rattle.rk_bytes.specs.Model.Salvage.{placed, last_placed, last_in_order, found_files, known_families, taken_records, report_of_files, salvage_families, salvage_records}
 use Rattle.rk_bytes.specs.Model.Grammar.{KeyWord, key_bytes, Command, scan, get as get_key, families, manifest_dump, dump_wal, check, repair, sst, drill, all_modes}
 use Rattle.rk_bytes.specs.Model.Lines.{row_line, answer_line, manifest_line, point_line, ok_line, count_words, mode_line, best_efforts_line, drill_line, refused_words, open_err_words}
-use Rattle.rk_bytes.specs.Model.Output.{Output, written, refused, unless_refused, dump_wal_output, manifest_dump_output, families_output, sst_output, state_of, of_family, scan_output, answer_status, get_output, counts_line, check_output, repair_output, salvage_state, state_counts, opened_counts, repair_line, drill_output, command_output}
+use Rattle.rk_bytes.specs.Model.Output.{Output, written, refused, unless_refused, dump_wal_output, manifest_dump_output, families_output, sst_output, state_of, of_family, scan_output, answer_status, get_output, counts_line, repair_output, salvage_state, state_counts, opened_counts, repair_line, drill_output, command_output}
 
 -- the files of a directory, by rising name
 abbrev pub Listing : Type 0

@@ -7,7 +7,7 @@ use Rattle.std.specs.Ordering.{nat_cmp}
 use Rattle.std.specs.Cmp.Lexicographic.{slice_cmp}
 use Rattle.std.specs.FinMap.{is_sorted, from_sorted, entries-from_sorted}
 use Rattle.hex.specs.Hex.{decode_pairs, encode_with}
-use Rattle.rk_bytes.specs.declared.model.status.Status.TheVariants.{Refused, Usage, NotFound}
+use Rattle.rk_bytes.specs.declared.model.status.Status.TheVariants.{Usage, NotFound}
 use Rattle.rk_bytes.specs.Model.Numbers.{in_turn}
 use Rattle.rk_bytes.specs.Model.Checksums.{crc_bit, crc_bits, crc_bytes, crc32c, pieces}
 use Rattle.rk_bytes.specs.Model.FileNames.{name_of, current_manifest}
@@ -29,7 +29,7 @@ use Rattle.rk_bytes.specs.Model.WrittenLogs.{fragment_bytes, later_fragments, re
 use Rattle.rk_bytes.specs.Model.Writers.{batch_bytes, grouped, run_bytes, block_bytes, table_bytes, edit_bytes}
 use Rattle.rk_bytes.specs.Model.Drill.{drill_table, drill_manifest, drill_torn_log, drill_log}
 use Rattle.rk_bytes.specs.Model.Grammar.{Command, command_of, scan_of, get_of, dump_wal_of, check_of, sst_of, drill_of}
-use Rattle.rk_bytes.specs.Model.Lines.{line, refusal_line, usage_line, quoted, batch_lines, edit_lines}
+use Rattle.rk_bytes.specs.Model.Lines.{line, usage_line, quoted, batch_lines, edit_lines}
 use Rattle.rk_bytes.specs.Model.Output.{Output, written, refused, command_output, output}
 use Rattle.rk_bytes.specs.Model.Examples.Directories.{Listing, answer_in, rows_in, count_in, opened_to, best_to, scan_listed, get_listed, check_listed, check_best_listed, listed_counts, keys_shown, salvage_in, drill_listed, on_files, by_files}
 
