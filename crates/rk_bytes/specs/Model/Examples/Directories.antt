@@ -1,12 +1,12 @@
 -- What commands write of a directory whose files are listed, in a form that can be computed: a finite map isn't,
 -- but the list of its entries is. The examples of `Output` stand on it.
-use Rattle.std.specs.Prelude.{◌≡◌, ℕ, ◌-◌, ◌^◌, min, max, sum, Bool, List, [], ◌∷◌, ◌++◌, length, map, filter, filter_map, flat_map, option_map, Option, Some, None, ok_or, Result, Ok, Err, reverse, nat_le}
-use Rattle.std.specs.List.{reduce}
+use Rattle.std.specs.Prelude.{◌≡◌, ℕ, ◌-◌, ◌^◌, min, max, sum, Bool, List, [], ◌∷◌, ◌++◌, length, map, filter, filter_map, flat_map, option_map, Option, Some, None, ok_or, Result, Ok, Err, reverse, nat_le, ◌==◌, codes, T}
+use Rattle.std.specs.List.{reduce, slice_split}
 use Rattle.std.specs.Ordering.{nat_cmp}
 use Rattle.std.specs.declared.cmp.Ordering.{Ordering}
 use Rattle.std.specs.Cmp.{IsTotalOrder, on_total, back_total, then_total, nat_cmp_total}
 use Rattle.std.specs.Cmp.Lexicographic.{slice_cmp, nat_list_cmp_total}
-use Rattle.std.specs.FinMap.{find, put, empty, entries, values, get, from_sorted, from_entries, get-entries, entries-from_sorted, empty_of_len, len-entries, entries-insert}
+use Rattle.std.specs.FinMap.{find, put, empty, entries, values, get, from_sorted, from_entries, get-entries, entries-from_sorted, empty_of_len, len-entries, entries-insert, is_sorted}
 use Rattle.std.proofs.Common.{sym, ap, ◌∙◌}
 use Rattle.rk_bytes.specs.declared.model.key.Record.{Record}
 use Rattle.rk_bytes.specs.declared.model.view.FamilyLine.{FamilyLine}
@@ -34,6 +34,26 @@ use Rattle.rk_bytes.specs.Model.Salvage.{placed, last_placed, last_in_order, fou
 use Rattle.rk_bytes.specs.Model.Grammar.{KeyWord, key_bytes, Command, scan, get as get_key, families, manifest_dump, dump_wal, check, repair, sst, drill, all_modes}
 use Rattle.rk_bytes.specs.Model.Lines.{row_line, answer_line, manifest_line, point_line, ok_line, count_words, mode_line, best_efforts_line, drill_line, refused_words, open_err_words}
 use Rattle.rk_bytes.specs.Model.Output.{Output, written, refused, unless_refused, dump_wal_output, manifest_dump_output, families_output, sst_output, state_of, of_family, scan_output, answer_status, get_output, counts_line, repair_output, salvage_state, state_counts, opened_counts, repair_line, drill_output, command_output}
+use Rattle.std.specs.Fmt.{digits}
+use Rattle.hex.specs.Hex.{decode_pairs, encode_with}
+use Rattle.rk_bytes.specs.declared.model.status.Status.TheVariants.{Usage, NotFound}
+use Rattle.rk_bytes.specs.Model.Numbers.{in_turn}
+use Rattle.rk_bytes.specs.Model.Checksums.{crc_bit, crc_bits, crc_bytes, crc32c, pieces}
+use Rattle.rk_bytes.specs.Model.FileNames.{current_manifest}
+use Rattle.rk_bytes.specs.Model.LogMarks.{log_marks, blocks_marks, block_len, marks_from, fragment_found, found}
+use Rattle.rk_bytes.specs.Model.InternalKey.{internal_key}
+use Rattle.rk_bytes.specs.Model.WriteBatch.{batch_of}
+use Rattle.rk_bytes.specs.Model.BlockEntries.{block_entries, entries_after, index_entries}
+use Rattle.rk_bytes.specs.Model.TableFooter.{footer_of, checked_block}
+use Rattle.rk_bytes.specs.Model.TableStatus.{property_list, range_list, table_with, table_status}
+use Rattle.rk_bytes.specs.Model.VersionEdit.{after_customs, synced_sizes_at, edit_fields}
+use Rattle.rk_bytes.specs.Model.Manifest.{edits_of, parted_units, steps_in_order, edit_step, overlap, unit_step, version_after}
+use Rattle.rk_bytes.specs.Model.KeyView.{covers}
+use Rattle.rk_bytes.specs.Model.BestEfforts.{lowered_until}
+use Rattle.rk_bytes.specs.Model.Salvage.{numbered, greatest_number, agreeing, readable_records, table_part, free_lost_name, moves}
+use Rattle.rk_bytes.specs.Model.Grammar.{command_of, scan_of, get_of, dump_wal_of, check_of, sst_of, drill_of}
+use Rattle.rk_bytes.specs.Model.Lines.{line, usage_line, quoted, batch_lines, edit_lines}
+use Rattle.rk_bytes.specs.Model.Output.{output}
 
 -- the files of a directory, by rising name
 abbrev pub Listing : Type 0
@@ -393,3 +413,51 @@ by_files (check Best) d files lists =
 by_files repair d files lists = λ i. repair_output (report_of_files (lists i))
 by_files (sst n part hex) d files lists = λ i. sst_output n part hex (found_in d files lists (table_name n) i)
 by_files (drill n) d files lists = drill_same n (drill_directory n) (all_put (slice_cmp nat_cmp) (drill_files n)) (entries_put (slice_cmp nat_cmp) nat_list_cmp_total (drill_files n))
+
+-- ---- outputs of texts
+
+-- the words of a text, in which single spaces stand between them
+unfoldable pub spoken : List ℕ → List (List ℕ)
+spoken text = slice_split (λ b. b == 32) text
+
+-- an output of these lines
+unfoldable pub of_lines : List (List ℕ) → Output
+of_lines lines = written (map line lines)
+
+-- the output for words that spell no command, and for a key that isn't there
+unfoldable pub usage : Output
+usage = record { lines = usage_line ∷ []; status = Usage }
+
+unfoldable pub not_found : Output
+not_found = record { lines = line (codes "not found") ∷ []; status = NotFound }
+
+-- what these texts make the program write over the files
+unfoldable pub over : Listing → List (List ℕ) → List Output
+over files texts = map (λ text. output (spoken text) (from_sorted files)) texts
+
+-- the same, computed
+unfoldable pub over_one : Option Command → Listing → Output
+over_one None files = usage
+over_one (Some command) files = on_files command files
+
+one_listed : (command : Option Command) (files : Listing) → T (is_sorted (slice_cmp nat_cmp) files) → command_output command (from_sorted files) ≡ over_one command files
+unfolding over_one usage command_output
+one_listed None files sorted = λ i. usage
+one_listed (Some command) files sorted = by_files command (from_sorted files) files (entries-from_sorted (slice_cmp nat_cmp) files sorted)
+
+pub over_listed : (files : Listing) (texts : List (List ℕ)) → T (is_sorted (slice_cmp nat_cmp) files) → over files texts ≡ map (λ text. over_one (command_of (spoken text)) files) texts
+unfolding over
+over_listed files texts sorted = λ i. map (λ text. one_listed (command_of (spoken text)) files sorted i) texts
+
+-- a database with this manifest
+unfoldable pub with_manifest : List ℕ → Listing
+with_manifest manifest = (codes "CURRENT", codes "MANIFEST-000002" ++ 10 ∷ []) ∷ (codes "MANIFEST-000002", manifest) ∷ []
+
+-- a manifest of one record, the edit of a new database with log number 3
+unfoldable pub first_record : List ℕ
+first_record = 0x91 ∷ 0x8d ∷ 0x74 ∷ 0x51 ∷ 0x22 ∷ 0 ∷ 1 ∷ 1 ∷ 0x1a ∷ codes "leveldb.BytewiseComparator" ++ 2 ∷ 3 ∷ 3 ∷ 4 ∷ 4 ∷ 0 ∷ []
+
+-- all that the lines of an output are computed by
+unfoldable pub computation : Unit {0}
+unfolding spoken over_one of_lines usage not_found with_manifest first_record command_of scan_of get_of dump_wal_of check_of sst_of drill_of digits decode_pairs encode_with quoted batch_lines edit_lines batch_of in_turn log_marks blocks_marks block_len marks_from fragment_found found pieces crc32c crc_bytes crc_bits crc_bit answer_in rows_in count_in opened_to best_to scan_listed get_listed check_listed check_best_listed on_files name_of current_manifest internal_key slot_cmp block_entries entries_after index_entries footer_of checked_block property_list range_list table_with table_status after_customs synced_sizes_at edit_fields edits_of parted_units steps_in_order edit_step overlap unit_step version_after covers replay table_file lowered_until placed numbered greatest_number agreeing readable_records table_part report_of_files free_lost_name moves
+computation = tt
