@@ -215,8 +215,8 @@ edit_lines hex bytes = elim (edit_fields bytes) [
 ]
 
 -- a family of the last version
-abbrev pub family_line : FamilyState → List ℕ
-family_line live = line (codes "family" ++ then_number live.id ++ codes " " ++ quoted false live.name ++ codes " log" ++ then_number live.log ++ codes " files" ++ then_number (length live.files))
+abbrev pub families_line : FamilyState → List ℕ
+families_line live = line (codes "family" ++ then_number live.id ++ codes " " ++ quoted false live.name ++ codes " log" ++ then_number live.log ++ codes " files" ++ then_number (length live.files))
 
 -- ---- what is shown of keys
 

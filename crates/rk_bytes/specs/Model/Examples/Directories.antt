@@ -33,7 +33,7 @@ use Rattle.rk_bytes.specs.Model.TableStatus.{is_range_deletion}
 use Rattle.rk_bytes.specs.Model.Salvage.{placed, last_placed, last_in_order, found_files, known_families, taken_records, report_of_files, salvage_families, salvage_records}
 use Rattle.rk_bytes.specs.Model.Grammar.{KeyWord, key_bytes, Command, scan, get as get_key, families, manifest_dump, dump_wal, check, repair, sst, drill, all_modes}
 use Rattle.rk_bytes.specs.Model.Lines.{row_line, answer_line, manifest_line, point_line, ok_line, count_words, mode_line, best_efforts_line, drill_line, refused_words, open_err_words}
-use Rattle.rk_bytes.specs.Model.Output.{Output, written, refused, unless_refused, dump_wal_output, manifest_dump_output, families_output, sst_output, state_of, of_family, scan_output, answer_status, get_output, counts_line, repair_output, salvage_state, state_counts, opened_counts, repair_line, drill_output, command_output}
+use Rattle.rk_bytes.specs.Model.Output.{Output, written, refused, written_or_refused, dump_wal_output, manifest_dump_output, families_output, sst_output, state_of, for_family, scan_output, answer_status, get_output, counts_line, repair_output, salvage_state, state_counts, opened_counts, repair_line, drill_output, command_output}
 use Rattle.std.specs.Fmt.{digits}
 use Rattle.hex.specs.Hex.{decode_pairs, encode_with}
 use Rattle.rk_bytes.specs.declared.model.status.Status.TheVariants.{Usage, NotFound}
@@ -254,12 +254,12 @@ best_listed files =
 -- `scan` of what is listed
 unfoldable pub scan_listed : Option (List ℕ) → Option KeyWord → Option KeyWord → Bool → Result Listed OpenErr → Output
 scan_listed named from to hex opened =
-    unless_refused open_err_words (λ listed. of_family named (λ id. written (map (row_line hex) (rows_in listed id (option_map key_bytes from) (option_map key_bytes to)))) (as_state listed)) opened
+    written_or_refused open_err_words (λ listed. for_family named (λ id. written (map (row_line hex) (rows_in listed id (option_map key_bytes from) (option_map key_bytes to)))) (as_state listed)) opened
 
 -- is that of its state
 scan_same : (named : Option (List ℕ)) (from to : Option KeyWord) (hex : Bool) (opened : Result Listed OpenErr) → scan_output named from to hex (opened >>= as_opened) ≡ scan_listed named from to hex opened
 unfolding scan_listed
-scan_same named from to hex (Ok listed) = λ i. of_family named (λ id. written (map (row_line hex) (rows_listed listed id (option_map key_bytes from) (option_map key_bytes to) i))) (as_state listed)
+scan_same named from to hex (Ok listed) = λ i. for_family named (λ id. written (map (row_line hex) (rows_listed listed id (option_map key_bytes from) (option_map key_bytes to) i))) (as_state listed)
 scan_same named from to hex (Err why) = λ i. refused (open_err_words why)
 
 -- the output for a key of which this is shown
@@ -269,12 +269,12 @@ answered hex shown = record { lines = answer_line hex shown ∷ []; status = ans
 -- `get` of what is listed
 unfoldable pub get_listed : KeyWord → Option (List ℕ) → Bool → Result Listed OpenErr → Output
 unfolding answered
-get_listed key named hex opened = unless_refused open_err_words (λ listed. of_family named (λ id. answered hex (answer_in listed id (key_bytes key))) (as_state listed)) opened
+get_listed key named hex opened = written_or_refused open_err_words (λ listed. for_family named (λ id. answered hex (answer_in listed id (key_bytes key))) (as_state listed)) opened
 
 -- is that of its state
 get_same : (key : KeyWord) (named : Option (List ℕ)) (hex : Bool) (opened : Result Listed OpenErr) → get_output key named hex (opened >>= as_opened) ≡ get_listed key named hex opened
 unfolding get_listed answered
-get_same key named hex (Ok listed) = λ i. of_family named (λ id. answered hex (answer_listed listed id (key_bytes key) i)) (as_state listed)
+get_same key named hex (Ok listed) = λ i. for_family named (λ id. answered hex (answer_listed listed id (key_bytes key) i)) (as_state listed)
 get_same key named hex (Err why) = λ i. refused (open_err_words why)
 
 -- the line of these families and of so many records
@@ -283,27 +283,27 @@ ok_line_of lines count = ok_line (length lines) (min (sum (map (λ line. line.fi
 
 -- `check` of what is listed
 unfoldable pub check_listed : Result Listed OpenErr → Output
-check_listed opened = unless_refused open_err_words (λ listed. written (ok_line_of listed.families (count_in listed) ∷ [])) opened
+check_listed opened = written_or_refused open_err_words (λ listed. written (ok_line_of listed.families (count_in listed) ∷ [])) opened
 
 -- is that of its state
-check_same : (opened : Result Listed OpenErr) → unless_refused open_err_words (λ state. written (counts_line state ∷ [])) (opened >>= as_opened) ≡ check_listed opened
+check_same : (opened : Result Listed OpenErr) → written_or_refused open_err_words (λ state. written (counts_line state ∷ [])) (opened >>= as_opened) ≡ check_listed opened
 unfolding check_listed
 check_same (Ok listed) = λ i. written (ok_line_of listed.families (count_listed listed i) ∷ [])
 check_same (Err why) = λ i. refused (open_err_words why)
 
 -- The state alone counts.
-check_state : (opened : Result Opened OpenErr) → unless_refused open_err_words (λ one. written (counts_line one.state ∷ [])) opened ≡ unless_refused open_err_words (λ state. written (counts_line state ∷ [])) (opened >>= state_in)
+check_state : (opened : Result Opened OpenErr) → written_or_refused open_err_words (λ one. written (counts_line one.state ∷ [])) opened ≡ written_or_refused open_err_words (λ state. written (counts_line state ∷ [])) (opened >>= state_in)
 check_state (Ok opened) = λ i. written (counts_line opened.state ∷ [])
 check_state (Err why) = λ i. refused (open_err_words why)
 
 -- `check` by best efforts
 unfoldable pub check_best_listed : Result ListedBest OpenErr → Output
 check_best_listed opened =
-    unless_refused open_err_words (λ best. written (manifest_line best.manifest best.units ∷ map point_line best.points ++ ok_line_of best.listed.families (count_in best.listed) ∷ [])) opened
+    written_or_refused open_err_words (λ best. written (manifest_line best.manifest best.units ∷ map point_line best.points ++ ok_line_of best.listed.families (count_in best.listed) ∷ [])) opened
 
 -- is that of its state
 check_best_same : (opened : Result ListedBest OpenErr)
-    → unless_refused open_err_words (λ best. written (manifest_line best.manifest best.units ∷ map point_line best.points ++ counts_line best.state ∷ [])) (opened >>= as_best) ≡ check_best_listed opened
+    → written_or_refused open_err_words (λ best. written (manifest_line best.manifest best.units ∷ map point_line best.points ++ counts_line best.state ∷ [])) (opened >>= as_best) ≡ check_best_listed opened
 unfolding check_best_listed
 check_best_same (Ok best) = λ i. written (manifest_line best.manifest best.units ∷ map point_line best.points ++ ok_line_of best.listed.families (count_listed best.listed i) ∷ [])
 check_best_same (Err why) = λ i. refused (open_err_words why)
@@ -405,10 +405,10 @@ by_files families d files lists = λ i. families_output (λ name. found_in d fil
 by_files (manifest_dump hex) d files lists = λ i. manifest_dump_output hex (λ name. found_in d files lists name i)
 by_files (dump_wal n hex) d files lists = λ i. dump_wal_output n hex (found_in d files lists (log_name n) i)
 by_files (check (Normal mode)) d files lists =
-    ap (unless_refused open_err_words (λ one. written (counts_line one.state ∷ []))) (opened_by mode d files lists)
-    ∙ (check_state (open_files mode (file_in files) (logs_of files)) ∙ (ap (unless_refused open_err_words (λ state. written (counts_line state ∷ []))) (opened_listed mode files) ∙ check_same (opened_to mode files)))
+    ap (written_or_refused open_err_words (λ one. written (counts_line one.state ∷ []))) (opened_by mode d files lists)
+    ∙ (check_state (open_files mode (file_in files) (logs_of files)) ∙ (ap (written_or_refused open_err_words (λ state. written (counts_line state ∷ []))) (opened_listed mode files) ∙ check_same (opened_to mode files)))
 by_files (check Best) d files lists =
-    ap (unless_refused open_err_words (λ best. written (manifest_line best.manifest best.units ∷ map point_line best.points ++ counts_line best.state ∷ []))) (best_by d files lists ∙ best_listed files)
+    ap (written_or_refused open_err_words (λ best. written (manifest_line best.manifest best.units ∷ map point_line best.points ++ counts_line best.state ∷ []))) (best_by d files lists ∙ best_listed files)
     ∙ check_best_same (best_to files)
 by_files repair d files lists = λ i. repair_output (report_of_files (lists i))
 by_files (sst n part hex) d files lists = λ i. sst_output n part hex (found_in d files lists (table_name n) i)
