@@ -110,7 +110,7 @@ pub record Listed : Type 0 where
   pub records : List Record
   pub tombs : List Tomb
 
--- it as a state
+-- what is listed, as a state
 abbrev pub as_state : Listed → State
 as_state listed = record { families = listed.families; records = last_records listed.records; tombs = listed.tombs }
 
@@ -118,7 +118,7 @@ as_state listed = record { families = listed.families; records = last_records li
 unfoldable pub answer_in : Listed → ℕ → List ℕ → Answer
 answer_in listed family key = shown (deciding (uncovered listed.tombs family key (last_in_order listed.records)))
 
--- is what the state shows
+-- The state shows it.
 answer_listed : (listed : Listed) (family : ℕ) (key : List ℕ) → answer (as_state listed) family key ≡ answer_in listed family key
 unfolding view_records answer_in
 answer_listed listed family key =
@@ -129,7 +129,7 @@ unfoldable pub rows_in : Listed → ℕ → Option (List ℕ) → Option (List �
 unfolding answer_in
 rows_in listed family from to = filter_map (λ key. row_of key (answer_in listed family key)) (filter (is_between from to) (keys_in (last_in_order listed.records) family))
 
--- are those of the state
+-- The state has these rows.
 rows_listed : (listed : Listed) (family : ℕ) (from to : Option (List ℕ)) → rows (as_state listed) family from to ≡ rows_in listed family from to
 unfolding rows view_records rows_in answer_in
 rows_listed listed family from to = ap (λ list. let records = map (λ (entry : Slot × Record). entry.1) list in
@@ -139,7 +139,7 @@ rows_listed listed family from to = ap (λ list. let records = map (λ (entry : 
 unfoldable pub count_in : Listed → ℕ
 count_in listed = min (length (last_placed listed.records)) (2 ^ 64 - 1)
 
--- is what the state counts
+-- The state counts as many.
 count_listed : (listed : Listed) → record_count (as_state listed) ≡ count_in listed
 unfolding count_in
 count_listed listed = ap (λ n. min n (2 ^ 64 - 1)) (len-entries (last_records listed.records) ∙ ap length (entries_placed listed.records))
@@ -149,7 +149,7 @@ unfoldable pub keys_shown : Listed → ℕ
 unfolding rows_in
 keys_shown listed = min (sum (map (λ line. length (rows_in listed line.id None None)) listed.families)) (2 ^ 64 - 1)
 
--- is what the state counts, too
+-- The state counts as many keys.
 keys_listed : (listed : Listed) → key_count (as_state listed) ≡ keys_shown listed
 unfolding keys_shown
 keys_listed listed = λ i. min (sum (map (λ line. length (rows_listed listed line.id None None i)) listed.families)) (2 ^ 64 - 1)
@@ -199,7 +199,7 @@ pub record ListedBest : Type 0 where
   pub units : ℕ
   pub points : List Point
 
--- it as what is opened
+-- what is listed, as what best efforts open
 abbrev as_best : ListedBest → Result BestOpened OpenErr
 as_best best = Ok (record { state = as_state best.listed; manifest = best.manifest; units = best.units; points = best.points })
 
@@ -256,7 +256,7 @@ unfoldable pub scan_listed : Option (List ℕ) → Option KeyWord → Option Key
 scan_listed named from to hex opened =
     written_or_refused open_err_words (λ listed. for_family named (λ id. written (map (row_line hex) (rows_in listed id (option_map key_bytes from) (option_map key_bytes to)))) (as_state listed)) opened
 
--- is that of its state
+-- The command writes it of the state.
 scan_same : (named : Option (List ℕ)) (from to : Option KeyWord) (hex : Bool) (opened : Result Listed OpenErr) → scan_output named from to hex (opened >>= as_opened) ≡ scan_listed named from to hex opened
 unfolding scan_listed
 scan_same named from to hex (Ok listed) = λ i. for_family named (λ id. written (map (row_line hex) (rows_listed listed id (option_map key_bytes from) (option_map key_bytes to) i))) (as_state listed)
@@ -271,7 +271,7 @@ unfoldable pub get_listed : KeyWord → Option (List ℕ) → Bool → Result Li
 unfolding answered
 get_listed key named hex opened = written_or_refused open_err_words (λ listed. for_family named (λ id. answered hex (answer_in listed id (key_bytes key))) (as_state listed)) opened
 
--- is that of its state
+-- The command writes it of the state.
 get_same : (key : KeyWord) (named : Option (List ℕ)) (hex : Bool) (opened : Result Listed OpenErr) → get_output key named hex (opened >>= as_opened) ≡ get_listed key named hex opened
 unfolding get_listed answered
 get_same key named hex (Ok listed) = λ i. for_family named (λ id. answered hex (answer_listed listed id (key_bytes key) i)) (as_state listed)
@@ -285,7 +285,7 @@ ok_line_of lines count = ok_line (length lines) (min (sum (map (λ line. line.fi
 unfoldable pub check_listed : Result Listed OpenErr → Output
 check_listed opened = written_or_refused open_err_words (λ listed. written (ok_line_of listed.families (count_in listed) ∷ [])) opened
 
--- is that of its state
+-- The command writes it of the state.
 check_same : (opened : Result Listed OpenErr) → written_or_refused open_err_words (λ state. written (counts_line state ∷ [])) (opened >>= as_opened) ≡ check_listed opened
 unfolding check_listed
 check_same (Ok listed) = λ i. written (ok_line_of listed.families (count_listed listed i) ∷ [])
@@ -301,7 +301,7 @@ unfoldable pub check_best_listed : Result ListedBest OpenErr → Output
 check_best_listed opened =
     written_or_refused open_err_words (λ best. written (manifest_line best.manifest best.units ∷ map point_line best.points ++ ok_line_of best.listed.families (count_in best.listed) ∷ [])) opened
 
--- is that of its state
+-- The command writes it of the state.
 check_best_same : (opened : Result ListedBest OpenErr)
     → written_or_refused open_err_words (λ best. written (manifest_line best.manifest best.units ∷ map point_line best.points ++ counts_line best.state ∷ [])) (opened >>= as_best) ≡ check_best_listed opened
 unfolding check_best_listed
@@ -320,15 +320,15 @@ state_of_best : (opened : Result ListedBest OpenErr) → (opened >>= as_best) >>
 state_of_best (Ok best) = λ i. Ok (as_state best.listed)
 state_of_best (Err why) = λ i. Err why
 
--- A directory is opened as its files are,
+-- A directory is opened as its files are.
 opened_by : (mode : Mode) (d : Directory) (files : Listing) → entries d ≡ files → open_files mode (get d) (logs_of (entries d)) ≡ open_files mode (file_in files) (logs_of files)
 opened_by mode d files lists = λ i. open_files mode (λ name. found_in d files lists name i) (logs_of (lists i))
 
--- by best efforts, too,
+-- It is opened by best efforts as its files are.
 best_by : (d : Directory) (files : Listing) → entries d ≡ files → best_files (get d) (numbers_in (entries d)) ≡ best_files (file_in files) (numbers_in files)
 best_by d files lists = λ i. best_files (λ name. found_in d files lists name i) (numbers_in (lists i))
 
--- and to the state of what is listed.
+-- A directory is opened to the state of what is listed.
 state_same : (how : How) (d : Directory) (files : Listing) → entries d ≡ files → state_of how d ≡ state_to how files >>= as_opened
 state_same (Normal mode) d files lists = ap (λ opened. opened >>= state_in) (opened_by mode d files lists) ∙ opened_listed mode files
 state_same Best d files lists =
@@ -339,7 +339,7 @@ unfoldable pub listed_counts : Result Listed OpenErr → List ℕ
 listed_counts (Ok listed) = count_words (count_in listed) (keys_shown listed)
 listed_counts (Err why) = refused_words (open_err_words why)
 
--- are those of its state
+-- The state has these counts.
 counts_same : (opened : Result Listed OpenErr) → opened_counts (opened >>= as_opened) ≡ listed_counts opened
 unfolding listed_counts
 counts_same (Ok listed) = λ i. count_words (count_listed listed i) (keys_listed listed i)
@@ -358,7 +358,7 @@ unfoldable pub salvage_in : Listing → Listed
 salvage_in files = let taken = taken_records (found_files files) in
     record { families = salvage_lines (known_families (found_files files)); records = taken; tombs = tombs_among (last_in_order taken) }
 
--- has the counts of the salvage of the directory
+-- The salvage of the directory has its counts.
 salvage_same : (d : Directory) (files : Listing) → entries d ≡ files → state_counts (salvage_state d) ≡ listed_counts (Ok (salvage_in files))
 unfolding listed_counts salvage_in salvage_families salvage_records
 salvage_same d files lists =
@@ -372,10 +372,11 @@ unfoldable pub drill_listed : ℕ → Listing → Output
 drill_listed n files = written (drill_line n ∷ map (λ mode. mode_line mode (listed_counts (opened_to mode files))) all_modes
     ++ best_efforts_line (listed_counts (state_to Best files)) ∷ repair_line (report_of_files files) ∷ map (λ mode. mode_line mode (listed_counts (Ok (salvage_in files)))) all_modes)
 
--- is that of the directory, in a mode and as a whole
+-- The directory is opened to these counts in a mode.
 mode_same : (mode : Mode) (d : Directory) (files : Listing) → entries d ≡ files → opened_counts (state_of (Normal mode) d) ≡ listed_counts (opened_to mode files)
 mode_same mode d files lists = ap opened_counts (state_same (Normal mode) d files lists) ∙ counts_same (opened_to mode files)
 
+-- The command writes it of the directory.
 drill_same : (n : ℕ) (d : Directory) (files : Listing) → entries d ≡ files → drill_output n d ≡ drill_listed n files
 unfolding drill_listed
 drill_same n d files lists =
