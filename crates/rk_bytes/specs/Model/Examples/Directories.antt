@@ -4,7 +4,7 @@ use Rattle.std.specs.Prelude.{◌≡◌, ℕ, ◌-◌, ◌^◌, min, max, sum, B
 use Rattle.std.specs.List.{reduce, slice_split}
 use Rattle.std.specs.Ordering.{nat_cmp}
 use Rattle.std.specs.declared.cmp.Ordering.{Ordering}
-use Rattle.std.specs.Cmp.{IsTotalOrder, on_total, back_total, then_total, nat_cmp_total}
+use Rattle.std.specs.Cmp.{IsTotalOrder}
 use Rattle.std.specs.Cmp.Lexicographic.{slice_cmp, nat_list_cmp_total}
 use Rattle.std.specs.FinMap.{find, put, empty, entries, values, get, from_sorted, from_entries, get-entries, entries-from_sorted, empty_of_len, len-entries, entries-insert, is_sorted}
 use Rattle.std.proofs.Common.{sym, ap, ◌∙◌}
@@ -22,7 +22,7 @@ use Rattle.rk_bytes.specs.Model.Numbers.{◌>>=◌}
 use Rattle.rk_bytes.specs.Model.BlockEntries.{with_fault, collected}
 use Rattle.rk_bytes.specs.Model.DiskImages.{Directory}
 use Rattle.rk_bytes.specs.Model.FileNames.{log_name, table_name, name_of}
-use Rattle.rk_bytes.specs.Model.Records.{Slot, slot_of, slot_cmp, last_records}
+use Rattle.rk_bytes.specs.Model.Records.{Slot, slot_of, slot_cmp, slot_cmp-total, last_records}
 use Rattle.rk_bytes.specs.Model.Manifest.{ManifestUnit, first_log}
 use Rattle.rk_bytes.specs.Model.KeyView.{State, Row, Answer, rows, view_records, row_of, shown, deciding, uncovered, is_between, keys_in, record_count, key_count, tomb_of, answer}
 use Rattle.rk_bytes.specs.Model.Replay.{replay}
@@ -65,13 +65,6 @@ file_in files name = find (slice_cmp nat_cmp) name files
 
 -- ---- the entries of finite maps
 
--- slots are in a total order
-slots_ordered : IsTotalOrder slot_cmp
-unfolding slot_cmp
-slots_ordered =
-    then_total (on_total (λ (slot : Slot). slot.family) nat_cmp_total) (then_total (on_total (λ (slot : Slot). slot.user) nat_list_cmp_total)
-    (then_total (on_total (λ (slot : Slot). slot.packed) (back_total nat_cmp_total)) (on_total (λ (slot : Slot). slot.end) nat_list_cmp_total)))
-
 -- an empty map has no entry
 no_entries : {K X : Type 0} (R : K → K → Ordering) → entries (empty {X = X} {R = R}) ≡ []
 no_entries {X = X} R =
@@ -96,7 +89,7 @@ is_placed (entry ∷ list) = ap (put slot_cmp entry.0 entry.1) (is_placed list)
 -- the entries of a record map
 entries_placed : (records : List Record) → entries (last_records records) ≡ last_placed records
 unfolding last_records
-entries_placed records = let list = map (λ r. (slot_of r, r)) (reverse records) in entries_put slot_cmp slots_ordered list ∙ is_placed list
+entries_placed records = let list = map (λ r. (slot_of r, r)) (reverse records) in entries_put slot_cmp slot_cmp-total list ∙ is_placed list
 
 -- a directory's file is found among its entries
 found_in : (d : Directory) (files : Listing) → entries d ≡ files → (name : List ℕ) → get d name ≡ file_in files name
