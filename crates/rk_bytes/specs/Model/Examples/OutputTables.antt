@@ -1,5 +1,5 @@
--- Commands over tables, and repairs and drills, computed through `output`
--- from the bytes of a directory's files (this project's own examples). The bytes were made outside.
+-- Commands over tables, and repairs and drills, computed through `output` from the bytes of a directory's
+-- files (this project's own examples). The bytes were made outside.
 use Rattle.std.specs.Prelude.{◌≡◌, ℕ, true, false, List, [], ◌∷◌, ◌++◌, take, drop, replicate, codes}
 use Rattle.rk_bytes.specs.declared.model.key.Kind.{Kind}
 use Rattle.rk_bytes.specs.declared.model.key.Kind.TheVariants.{Value, Deletion}
@@ -7,7 +7,7 @@ use Rattle.rk_bytes.specs.declared.model.key.Record.{Record}
 use Rattle.rk_bytes.specs.Model.WrittenLogs.{fragment_bytes, later_fragments, record_fragments, record_pieces, written_record, written_log}
 use Rattle.rk_bytes.specs.Model.Writers.{TableContents, batch_bytes, grouped, run_bytes, block_bytes, table_bytes, edit_bytes}
 use Rattle.rk_bytes.specs.Model.Drill.{drill_table, drill_manifest, drill_torn_log, drill_log}
-use Rattle.rk_bytes.specs.Model.Output.{Output, refused}
+use Rattle.rk_bytes.specs.Model.Output.{refused}
 use Rattle.rk_bytes.specs.Model.Examples.Directories.{Listing, listed_counts, keys_shown, salvage_in, drill_listed, of_lines, over, over_listed, with_manifest, first_record, computation}
 
 -- a table of `a` = `x` at sequence number 1, 114 bytes
@@ -108,36 +108,36 @@ of_a_listed_table : over (with_table listing table) (codes "scan" ∷ codes "che
     ∷ of_lines []
     ∷ refused (codes "NoTable 5") ∷ []
 unfolding computation with_table table listing
-of_a_listed_table = over_listed (with_table listing table) (codes "scan" ∷ codes "check" ∷ codes "families" ∷ codes "check --best-efforts" ∷ codes "sst 4 check" ∷ codes "sst 4 scan" ∷ codes "sst 4 scan --hex" ∷ codes "sst 4 properties" ∷ codes "sst 5 check" ∷ []) tt
+of_a_listed_table = over_listed _ _ tt
 
 of_another_size : over (with_table larger table) (codes "scan" ∷ codes "check --best-efforts" ∷ [])
     ≡ refused (codes "SizeMismatch 4 115 114")
     ∷ of_lines (codes "manifest 2 units 2" ∷ codes "point 0 1" ∷ codes "ok: families 1 files 0 records 0" ∷ []) ∷ []
 unfolding computation with_table table larger
-of_another_size = over_listed (with_table larger table) (codes "scan" ∷ codes "check --best-efforts" ∷ []) tt
+of_another_size = over_listed _ _ tt
 
 of_other_bounds : over (with_table elsewhere table) (codes "scan" ∷ [])
     ≡ refused (codes "OutOfBounds 4") ∷ []
 unfolding computation with_table table elsewhere
-of_other_bounds = over_listed (with_table elsewhere table) (codes "scan" ∷ []) tt
+of_other_bounds = over_listed _ _ tt
 
 of_a_changed_table : over (with_table listing (take 12 table ++ 0x79 ∷ drop 13 table)) (codes "sst 4 check" ∷ codes "check" ∷ [])
     ≡ refused (codes "DamagedTable 4 Checksum 0")
     ∷ refused (codes "DamagedTable 4 Checksum 0") ∷ []
 unfolding computation with_table table listing
-of_a_changed_table = over_listed (with_table listing (take 12 table ++ 0x79 ∷ drop 13 table)) (codes "sst 4 check" ∷ codes "check" ∷ []) tt
+of_a_changed_table = over_listed _ _ tt
 
 of_a_cut_table : over (with_table listing (take 113 table)) (codes "sst 4 check" ∷ codes "check" ∷ codes "repair" ∷ [])
     ≡ refused (codes "DamagedTable 4 BadMagic 65")
     ∷ refused (codes "SizeMismatch 4 114 113")
     ∷ of_lines (codes "lost: 000004.sst lost/000004.sst" ∷ codes "repaired: families 1 tables 0 logs 0 added 0 archived 1 records 0" ∷ []) ∷ []
 unfolding computation with_table table listing
-of_a_cut_table = over_listed (with_table listing (take 113 table)) (codes "sst 4 check" ∷ codes "check" ∷ codes "repair" ∷ []) tt
+of_a_cut_table = over_listed _ _ tt
 
 of_a_front : over (with_table listing (take 47 table)) (codes "sst 4 check" ∷ [])
     ≡ refused (codes "DamagedTable 4 FooterShort 0") ∷ []
 unfolding computation with_table table listing
-of_a_front = over_listed (with_table listing (take 47 table)) (codes "sst 4 check" ∷ []) tt
+of_a_front = over_listed _ _ tt
 
 of_a_compressed_block : over (with_table listing (compressed ++ drop 26 table)) (codes "sst 4 check" ∷ codes "scan" ∷ codes "scan --best-efforts" ∷ codes "repair" ∷ [])
     ≡ refused (codes "UnsupportedTable 4 Compressed 1")
@@ -145,64 +145,64 @@ of_a_compressed_block : over (with_table listing (compressed ++ drop 26 table)) 
     ∷ refused (codes "UnsupportedTable 4 Compressed 1")
     ∷ refused (codes "UnsupportedTable 4 Compressed 1") ∷ []
 unfolding computation with_table table listing compressed
-of_a_compressed_block = over_listed (with_table listing (compressed ++ drop 26 table)) (codes "sst 4 check" ∷ codes "scan" ∷ codes "scan --best-efforts" ∷ codes "repair" ∷ []) tt
+of_a_compressed_block = over_listed _ _ tt
 
 of_a_log_that_goes_on : over (with_logs damaged_log log_at_two first_record) (codes "scan" ∷ codes "scan --mode=3" ∷ [])
     ≡ of_lines (codes "\"a\" => \"1\"" ∷ codes "\"b\" => \"2\"" ∷ [])
     ∷ of_lines (codes "\"a\" => \"1\"" ∷ codes "\"b\" => \"2\"" ∷ []) ∷ []
 unfolding computation with_logs damaged_log log_at_two
-of_a_log_that_goes_on = over_listed (with_logs damaged_log log_at_two first_record) (codes "scan" ∷ codes "scan --mode=3" ∷ []) tt
+of_a_log_that_goes_on = over_listed _ _ tt
 
 of_a_log_that_waits : over (with_logs damaged_log log_at_three first_record) (codes "scan" ∷ codes "scan --mode=0" ∷ [])
     ≡ of_lines (codes "\"a\" => \"1\"" ∷ [])
     ∷ refused (codes "Corrupt 5 24 Checksum") ∷ []
 unfolding computation with_logs damaged_log log_at_three
-of_a_log_that_waits = over_listed (with_logs damaged_log log_at_three first_record) (codes "scan" ∷ codes "scan --mode=0" ∷ []) tt
+of_a_log_that_waits = over_listed _ _ tt
 
 of_a_family_ahead : over ((codes "000004.sst", table) ∷ with_logs damaged_log log_at_three (first_record ++ family_ahead)) (codes "scan" ∷ codes "families" ∷ codes "scan --family=one --best-efforts" ∷ [])
     ≡ refused (codes "FamilyAhead 1 5")
     ∷ of_lines (codes "family 0 \"default\" log 3 files 0" ∷ codes "family 1 \"one\" log 8 files 1" ∷ [])
     ∷ of_lines (codes "\"a\" => \"x\"" ∷ []) ∷ []
 unfolding computation with_logs damaged_log log_at_three table family_ahead
-of_a_family_ahead = over_listed ((codes "000004.sst", table) ∷ with_logs damaged_log log_at_three (first_record ++ family_ahead)) (codes "scan" ∷ codes "families" ∷ codes "scan --family=one --best-efforts" ∷ []) tt
+of_a_family_ahead = over_listed _ _ tt
 
 of_a_recycled_log : over ((codes "000004.sst", table) ∷ with_logs recycled_log log_at_three (first_record ++ family_ahead)) (codes "scan" ∷ codes "dump_wal 5" ∷ [])
     ≡ of_lines (codes "\"a\" => \"1\"" ∷ [])
     ∷ of_lines (codes "record 0 17" ∷ codes "  batch 1 1" ∷ codes "  put 0 \"a\"@1 => \"1\"" ∷ codes "end 28 Stale" ∷ []) ∷ []
 unfolding computation with_logs recycled_log log_at_three table family_ahead
-of_a_recycled_log = over_listed ((codes "000004.sst", table) ∷ with_logs recycled_log log_at_three (first_record ++ family_ahead)) (codes "scan" ∷ codes "dump_wal 5" ∷ []) tt
+of_a_recycled_log = over_listed _ _ tt
 
 of_the_best_point : over ((codes "000004.sst", table) ∷ (codes "000006.sst", take 113 table) ∷ with_manifest (first_record ++ three_tables)) (codes "check --best-efforts" ∷ codes "check" ∷ codes "get a --best-efforts" ∷ [])
     ≡ of_lines (codes "manifest 2 units 4" ∷ codes "point 0 2" ∷ codes "ok: families 1 files 1 records 1" ∷ [])
     ∷ refused (codes "SizeMismatch 6 114 113")
     ∷ of_lines (codes "\"x\"" ∷ []) ∷ []
 unfolding computation table three_tables
-of_the_best_point = over_listed ((codes "000004.sst", table) ∷ (codes "000006.sst", take 113 table) ∷ with_manifest (first_record ++ three_tables)) (codes "check --best-efforts" ∷ codes "check" ∷ codes "get a --best-efforts" ∷ []) tt
+of_the_best_point = over_listed _ _ tt
 
 of_a_repair : over (to_repair []) (codes "repair" ∷ codes "scan" ∷ [])
     ≡ of_lines (codes "lost: 000005.log lost/000005.log" ∷ codes "lost: 000007.log lost/000007.log" ∷ codes "lost: 000006.sst lost/000006.sst" ∷ codes "repaired: families 1 tables 1 logs 2 added 1 archived 1 records 2" ∷ [])
     ∷ refused (codes "NoCurrent") ∷ []
 unfolding computation to_repair table log_of_five log_of_seven
-of_a_repair = over_listed (to_repair []) (codes "repair" ∷ codes "scan" ∷ []) tt
+of_a_repair = over_listed _ _ tt
 
 of_another_repair : over (to_repair ((codes "lost/000005.log", []) ∷ [])) (codes "repair" ∷ [])
     ≡ of_lines (codes "lost: 000005.log lost/000005.log.1" ∷ codes "lost: 000007.log lost/000007.log" ∷ codes "lost: 000006.sst lost/000006.sst" ∷ codes "repaired: families 1 tables 1 logs 2 added 1 archived 1 records 2" ∷ []) ∷ []
 unfolding computation to_repair table log_of_five log_of_seven
-of_another_repair = over_listed (to_repair ((codes "lost/000005.log", []) ∷ [])) (codes "repair" ∷ []) tt
+of_another_repair = over_listed _ _ tt
 
 -- a table as it is written, with its properties, and one of family 300 with range deletions
 of_written_tables : over ((codes "000004.sst", table_bytes false (record { family = 0; family_name = codes "default"; records = of_key 0 1 Value (codes "a") (codes "x") ∷ []; ranges = [] })) ∷ []) (codes "sst 4 check" ∷ codes "sst 4 properties" ∷ [])
     ≡ of_lines (codes "good: family 0 entries 1 ranges 0" ∷ []) ∷ of_lines (codes "\"rocksdb.block.based.table.index.type\" = \"\\x00\\x00\\x00\\x00\"" ∷ codes "\"rocksdb.column.family.id\" = \"\\x00\"" ∷ codes "\"rocksdb.column.family.name\" = \"default\"" ∷ codes "\"rocksdb.comparator\" = \"leveldb.BytewiseComparator\"" ∷ codes "\"rocksdb.index.key.is.user.key\" = \"\\x00\"" ∷ codes "\"rocksdb.index.value.is.delta.encoded\" = \"\\x00\"" ∷ codes "\"rocksdb.num.entries\" = \"\\x01\"" ∷ []) ∷ []
 unfolding computation written_by of_key
-of_written_tables = over_listed ((codes "000004.sst", table_bytes false (record { family = 0; family_name = codes "default"; records = of_key 0 1 Value (codes "a") (codes "x") ∷ []; ranges = [] })) ∷ []) (codes "sst 4 check" ∷ codes "sst 4 properties" ∷ []) tt
+of_written_tables = over_listed _ _ tt
 
 of_range_deletions : over ((codes "000007.sst", table_bytes true other_table) ∷ []) (codes "sst 7 check" ∷ codes "sst 7 scan" ∷ [])
     ≡ of_lines (codes "good: family 300 entries 2 ranges 2" ∷ []) ∷ of_lines (codes "\"a\"@2:1 => \"x\"" ∷ codes "\"ab\"@1:0 => \"\"" ∷ codes "range \"c\"@4 .. \"d\"" ∷ codes "range \"a\"@3 .. \"b\"" ∷ []) ∷ []
 unfolding computation written_by of_key other_table
-of_range_deletions = over_listed ((codes "000007.sst", table_bytes true other_table) ∷ []) (codes "sst 7 check" ∷ codes "sst 7 scan" ∷ []) tt
+of_range_deletions = over_listed _ _ tt
 
 -- a drill looks at no file of the directory
-of_three_keys : over ([]) (codes "drill 3" ∷ [])
+of_three_keys : over [] (codes "drill 3" ∷ [])
     ≡ of_lines (codes "drill 3" ∷ codes "mode 0: records 8 keys 5" ∷ codes "mode 1: refused: Corrupt 5 76 Torn" ∷ codes "mode 2: records 5 keys 5" ∷ codes "mode 3: records 8 keys 5" ∷ codes "best-efforts: records 3 keys 3" ∷ codes "repaired: families 1 tables 1 logs 2 added 1 archived 0 records 8" ∷ codes "mode 0: records 8 keys 5" ∷ codes "mode 1: records 8 keys 5" ∷ codes "mode 2: records 8 keys 5" ∷ codes "mode 3: records 8 keys 5" ∷ []) ∷ []
 unfolding computation written_by drilled
-of_three_keys = over_listed ([]) (codes "drill 3" ∷ []) tt
+of_three_keys = over_listed _ _ tt
