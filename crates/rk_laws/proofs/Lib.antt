@@ -16,9 +16,13 @@ mod FilesAtPoints
 mod FixedNumbers
 mod InTurn
 mod IndexLaw
+mod KeyViewLemmas
+mod KeyViewRows
 mod LostNames
 mod ManifestUnits
 mod NameLemmas
+mod NumberOrder
+mod OpeningLemmas
 mod Orders
 mod PartingLemmas
 mod Readers

@@ -67,7 +67,7 @@ kind_of-kind_number Merge = refl
 kind_of-kind_number SingleDeletion = refl
 kind_of-kind_number RangeDeletion = refl
 
-kind_number-small : (kind : Kind) → kind_number kind < 256
+pub kind_number-small : (kind : Kind) → kind_number kind < 256
 kind_number-small Deletion = omega arith
 kind_number-small Value = omega arith
 kind_number-small Merge = omega arith

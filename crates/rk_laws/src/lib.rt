@@ -11,10 +11,12 @@ mod descent;
 mod disk_images;
 mod edit;
 mod internal_key;
+mod key_view;
 mod log_items;
 mod manifest;
 mod names;
 mod numbers;
+mod opening;
 mod records;
 mod replay;
 mod salvage;
@@ -30,10 +32,12 @@ pub use disk_images::{
 };
 pub use edit::one_edit;
 pub use internal_key::{key_order, key_round_trip};
+pub use key_view::{nothing_hidden, rows_are_what_is_shown, rows_rise};
 pub use log_items::one_parting;
 pub use manifest::{one_list_of_units, versions_in_order};
 pub use names::one_name;
 pub use numbers::{one_varint, shortest_varint, varint_round_trip, zigzag_round_trip};
+pub use opening::{things_in_order, top_of_the_records, undamaged_opens_alike};
 pub use records::{last_of_appended, slot_order};
 pub use replay::{no_log_adds_nothing, undamaged_logs_add_alike};
 pub use salvage::{
