@@ -145,6 +145,34 @@ fn a_disk_fails_where_it_is_set_to(rt: HostRuntime) -> Result<(), Fail> {
 }
 
 #[test]
+fn reads_fail_from_an_offset_on_and_others_are_counted(rt: HostRuntime) -> Result<(), Fail> {
+    let mut disk = MemDisk::new(rt.alloc())?;
+    disk.put_file("f", b"abcdef")?;
+    disk.put_file("g", b"xy")?;
+    disk.fail_from("f", 4)?;
+    let mut buf = [0; 4];
+    for (name, at, read) in [
+        ("f", 0, Ok(4)),
+        ("f", 3, Ok(3)),
+        ("f", 4, Err(DiskErr::Failed)),
+        ("f", u64::MAX, Err(DiskErr::Failed)),
+        ("g", 4, Ok(0)),
+        ("g", 0, Ok(2)),
+    ] {
+        assert_eq!(rt;
+            read_at(&mut disk, name, at, &mut buf),
+            read,
+            "{name} at {at}"
+        );
+    }
+    disk.put_file("f", b"new")?;
+    for (name, sum) in [("f", 7), ("g", 2), ("absent", 0)] {
+        assert_eq!(rt; disk.bytes_read(name), sum, "{name}");
+    }
+    Ok(())
+}
+
+#[test]
 fn each_call_can_fail(rt: HostRuntime) -> Result<(), Fail> {
     let alloc = rt.alloc();
     let mut disk = MemDisk::new(alloc)?;

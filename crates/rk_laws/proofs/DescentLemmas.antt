@@ -1,9 +1,8 @@
 -- A directory descends from itself, and descent goes through.
-use Rattle.std.proofs.Common.{◌≡◌, ◌⊎◌, inl, inr, ℕ, zero, suc, Bool, true, false, not, List, [], ◌∷◌, map, refl, sym, ap, subst, ◌∙◌, arith}
-use Rattle.std.specs.Prelude.{Option, Some, None, Result, filter, IsTrue, Contains}
+use Rattle.std.proofs.Common.{◌≡◌, ◌⊎◌, inl, inr, ℕ, zero, suc, Bool, false, not, List, [], ◌∷◌, map, refl, sym, ap, subst, ◌∙◌}
+use Rattle.std.specs.Prelude.{Option, Some, None, Result, filter, IsTrue}
 use Rattle.std.specs.FinMap.{get, values}
 use Rattle.std.proofs.lemmas.Bool.{false≢true}
-use Rattle.rk_bytes.specs.declared.model.key.Record.{Record}
 use Rattle.rk_bytes.specs.declared.model.name.FileName.TheVariants.{Lost}
 use Rattle.rk_bytes.specs.declared.model.open.OpenErr.{OpenErr}
 use Rattle.rk_bytes.specs.declared.model.wal.Mode.{Mode}
@@ -15,7 +14,7 @@ use Rattle.rk_bytes.specs.Model.FileNames.{name_of, lost_name}
 use Rattle.rk_bytes.specs.Model.KeyView.{State, tomb_of, is_covered}
 use Rattle.rk_bytes.specs.Model.Records.{RecordMap}
 use Rattle.rk_bytes.specs.Model.BestEfforts.{best_directory}
-use Rattle.rk_bytes.specs.Model.Salvage.{refuses_file, salvage_families, salvage_records, remainder, uncut_tombs, IsSalvage}
+use Rattle.rk_bytes.specs.Model.Salvage.{refuses_file, salvage_families, salvage_records, IsSalvage}
 use Rattle.rk_bytes.specs.Model.Descent.{state_in, opened_state, best_state, GivesSalvage, may_go, may_move, HasMoved, Descends, is_temporary, IsReady}
 
 pub Descends-itself : (d : Directory) → refuses_file d ≡ false → Descends d d

@@ -12,6 +12,7 @@ mod EditTracked
 mod EntryLemmas
 mod FixedNumbers
 mod IndexLaw
+mod LostNames
 mod ManifestUnits
 mod NameLemmas
 mod Orders
@@ -19,6 +20,8 @@ mod PartingLemmas
 mod Readers
 mod ReadingLemmas
 mod RecordMaps
+mod ReplayLaw
+mod ReplayLemmas
 mod RestartLemmas
 mod SalvageLemmas
 mod Varints

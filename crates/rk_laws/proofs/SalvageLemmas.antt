@@ -1,11 +1,11 @@
 -- The records that are admitted, and those that the kept tables hold.
-use Rattle.std.proofs.Common.{◌≡◌, ℕ, ◌+◌, ◌*◌, ◌<◌, Bool, true, false, not, List, [], ◌∷◌, ◌++◌, map, length, reverse, cond, refl, sym, ap, subst, ◌∙◌, arith}
+use Rattle.std.proofs.Common.{◌≡◌, ℕ, ◌<◌, Bool, true, false, not, List, [], ◌∷◌, ◌++◌, map, length, reverse, cond, refl, sym, ap, ◌∙◌, arith}
 use Rattle.std.specs.Prelude.{Option, Some, None, filter, bytes_eq}
 use Rattle.std.specs.Option.{option_or, option_map_or}
 use Rattle.std.specs.declared.cmp.Ordering.{Ordering}
 use Rattle.std.specs.declared.cmp.Ordering.TheVariants.{Less, Equal, Greater}
 use Rattle.std.specs.Ordering.{eq_by_cmp, is_eq}
-use Rattle.std.specs.FinMap.{FinMap, entries, empty, get, get-entries, get-from_entries, len-empty, len-entries, entries-insert, same_map, from_entries}
+use Rattle.std.specs.FinMap.{entries, empty, get, get-entries, len-empty, len-entries, entries-insert, same_map, from_entries}
 use Rattle.std.specs.FinMap.Entries.{find, put}
 use Rattle.std.proofs.lemmas.Slice.Eq.{bytes_eq-Decides}
 use Rattle.rk_bytes.specs.declared.model.key.Kind.{Kind}
@@ -13,8 +13,8 @@ use Rattle.rk_bytes.specs.declared.model.key.Kind.TheVariants.{Deletion, Value, 
 use Rattle.rk_bytes.specs.declared.model.key.Record.{Record}
 use Rattle.rk_bytes.specs.Model.InternalKey.{kind_number, kind_of, packed_of}
 use Rattle.rk_bytes.specs.Model.DiskImages.{Directory}
-use Rattle.rk_bytes.specs.Model.Records.{Slot, slot_cmp, slot_of, RecordMap, last_records, over}
-use Rattle.rk_bytes.specs.Model.Salvage.{placed, last_placed, is_held, not_held, kept_records, taken_records, tables_in, logs_in, remainder, salvage_records, tables_alone}
+use Rattle.rk_bytes.specs.Model.Records.{Slot, slot_cmp, slot_of, last_records}
+use Rattle.rk_bytes.specs.Model.Salvage.{placed, last_placed, is_held, not_held, kept_records, found_files, remainder, salvage_records, tables_alone}
 use Rattle.rk_laws.proofs.Orders.{slot_cmp-total, slot_cmp-only_equal}
 use Rattle.rk_laws.proofs.RecordMaps.{entry_of, get-last_records, get-over, last_records-append}
 
@@ -140,4 +140,4 @@ nothing_left before kept after none =
 
 pub records-tables_alone : (d : Directory) → remainder d ≡ [] → salvage_records d ≡ tables_alone d
 unfolding remainder salvage_records tables_alone
-records-tables_alone d none = nothing_left _ (kept_records (tables_in (entries d))) _ none
+records-tables_alone d none = nothing_left _ (kept_records (found_files (entries d))) _ none

@@ -16,6 +16,7 @@ mod manifest;
 mod names;
 mod numbers;
 mod records;
+mod replay;
 mod salvage;
 
 pub use batch::one_batch;
@@ -32,4 +33,5 @@ pub use manifest::one_list_of_units;
 pub use names::one_name;
 pub use numbers::{one_varint, shortest_varint, varint_round_trip, zigzag_round_trip};
 pub use records::{last_of_appended, slot_order};
-pub use salvage::{nothing_to_add, records_in_order};
+pub use replay::{no_log_adds_nothing, undamaged_logs_add_alike};
+pub use salvage::{nothing_to_add, one_free_lost_name, records_in_order};

@@ -1,6 +1,6 @@
 -- Which directories a repair that is stopped anywhere may leave, and disks that never hold another (this
 -- project's own rule). Directories are compared alone: nothing here speaks of the steps of a repair.
-use Rattle.std.specs.Prelude.{◌≡◌, ◌⊎◌, ℕ, Bool, true, false, IsTrue, List, Option, Some, None, Result, Ok, Err, Contains}
+use Rattle.std.specs.Prelude.{◌≡◌, ◌⊎◌, ℕ, Bool, true, false, IsTrue, List, Some, None, Result, Ok, Err, Contains}
 use Rattle.std.specs.List.{AllByRecursion}
 use Rattle.std.specs.FinMap.{get}
 use Rattle.rk_bytes.specs.declared.model.key.Record.{Record}

@@ -1,5 +1,7 @@
 pub mod DataBlocks
+pub mod Directories
 pub mod Drill
+pub mod DrillLogs
 pub mod Opening
 pub mod Output
 pub mod Properties

@@ -1,6 +1,6 @@
 -- The words of a command, after the folder that it looks at. The grammar is this project's own rule; the
 -- commands take their names from RocksDB's administration tool `ldb`.
-use Rattle.std.specs.Prelude.{◌≡◌, ◌⊎◌, ℕ, ◌+◌, ◌*◌, ◌-◌, ◌%◌, ◌^◌, ◌<◌, ◌≤◌, ◌==◌, nat_eq, nat_lt, nat_le, Bool, true, false, ◌&&◌, List, [], ◌∷◌, ◌++◌, length, map, drop, find, replicate, if◌then◌else◌, Option, Some, None, option_map, unwrap_or, IfSome, Ok, Err, bytes_eq, codes, decimal, refl}
+use Rattle.std.specs.Prelude.{◌≡◌, ◌⊎◌, ℕ, ◌+◌, ◌-◌, ◌%◌, ◌^◌, ◌<◌, ◌≤◌, ◌==◌, nat_eq, nat_lt, nat_le, Bool, true, false, ◌&&◌, List, [], ◌∷◌, ◌++◌, length, map, drop, find, replicate, if◌then◌else◌, Option, Some, None, option_map, unwrap_or, IfSome, Ok, Err, bytes_eq, codes, decimal, refl}
 use Rattle.std.specs.Fmt.{digits}
 use Rattle.std.specs.List.{starts_with, list_all, slice_split}
 use Rattle.std.specs.Option.{option_and_then}

@@ -141,6 +141,7 @@ parted_units ended (suc most) (edit ∷ edits) = elim (stated group_in edit) [
 abbrev pub units_with : List ManifestUnit × UnitsEnd → Units
 units_with parted = record { units = parted.0; fault = fault_in (suc (length parted.0)) parted.1 }
 
+-- the units of a manifest's edits
 abbrev pub units_of_edits : Edits → Units
 units_of_edits read = units_with (parted_units read.ended (length read.edits) read.edits)
 
@@ -291,6 +292,7 @@ with_numbers edit version =
       wals = tracked_after edit version.wals;
     }
 
+-- The version after an edit: the comparator is tested, then the family, then the files.
 unfoldable pub edit_step : List Field → Version → Result Version ApplyFault
 edit_step edit version = if has_other_comparator edit then Err UnsupportedComparator else (do
   known ← family_step edit version
@@ -323,6 +325,7 @@ unfoldable pub overlap : List FamilyState → Option ApplyFault
 overlap [] = None
 overlap (live ∷ families) = option_or (option_map (Overlap live.id) (overlapping_level live.files)) (overlap families)
 
+-- the version after a unit, whose files have to be apart at its end
 unfoldable pub unit_step : ManifestUnit → Version → Result Version ApplyFault
 unit_step unit version = do
   next ← steps_in_order edit_step unit.edits version
@@ -436,6 +439,7 @@ tracked_logs edits = do
   version ← steps_in_order edit_step edits first_version
   Ok version.wals
 
+-- a tracked log
 log_of : ℕ → Option ℕ → Tracked
 log_of log synced = record { log = log; synced = synced }
 

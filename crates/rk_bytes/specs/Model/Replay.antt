@@ -61,6 +61,11 @@ finding (end torn_end place) = damage Torn place
 finding (end Stale place) = stale_end
 finding (end (Unsupported kind) place) = unsupported (RecordType kind)
 
+-- an earlier life of the file begins here
+abbrev pub is_stale : Finding → Bool
+is_stale stale_end = true
+is_stale _ = false
+
 -- a log's number and what replay finds in it
 pub record Findings : Type 0 where
   pub log : ℕ
@@ -68,6 +73,16 @@ pub record Findings : Type 0 where
 
 abbrev pub findings : Log → Findings
 findings log = record { log = log.number; found = map finding (log_items log.number log.bytes) }
+
+-- the log ends where an earlier life of its file begins
+abbrev pub ends_stale : Log → Bool
+ends_stale log = list_any is_stale (findings log).found
+
+-- some of the logs, in their order
+pub data IsPartOf : List Log → List Log → Type 0 where
+  no_log : IsPartOf [] []
+  taken : {log : Log} {part logs : List Log} → IsPartOf part logs → IsPartOf (log ∷ part) (log ∷ logs)
+  left_out : {log : Log} {part logs : List Log} → IsPartOf part logs → IsPartOf part (log ∷ logs)
 
 -- the mode refuses this damage
 abbrev pub is_refused : Mode → WalWhy → Bool

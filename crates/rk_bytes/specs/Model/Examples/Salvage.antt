@@ -1,6 +1,6 @@
 -- Directories that are salvaged and repaired, small enough to be computed (this project's own examples). Their
 -- bytes were made outside.
-use Rattle.std.specs.Prelude.{◌≡◌, ℕ, List, [], ◌∷◌, ◌++◌, map, replicate, Result, Ok, Err, codes, T, refl}
+use Rattle.std.specs.Prelude.{◌≡◌, ℕ, List, [], ◌∷◌, ◌++◌, take, drop, replicate, Option, Some, None, Result, Ok, codes, T, refl}
 use Rattle.std.specs.Ordering.{nat_cmp}
 use Rattle.std.specs.Cmp.Lexicographic.{slice_cmp}
 use Rattle.std.specs.FinMap.{is_sorted, from_sorted, entries-from_sorted}
@@ -8,7 +8,6 @@ use Rattle.std.specs.Fmt.{digits}
 use Rattle.rk_bytes.specs.declared.model.key.Kind.TheVariants.{Value}
 use Rattle.rk_bytes.specs.declared.model.key.Record.{Record}
 use Rattle.rk_bytes.specs.declared.model.salvage.SurveyErr.{SurveyErr}
-use Rattle.rk_bytes.specs.declared.model.salvage.FamilyName.{FamilyName}
 use Rattle.rk_bytes.specs.declared.model.salvage.Moved.{Moved}
 use Rattle.rk_bytes.specs.declared.model.salvage.Report.{Report}
 use Rattle.rk_bytes.specs.Model.Numbers.{in_turn}
@@ -21,8 +20,7 @@ use Rattle.rk_bytes.specs.Model.TableFooter.{footer_of, checked_block}
 use Rattle.rk_bytes.specs.Model.TableStatus.{table_with, table_status}
 use Rattle.rk_bytes.specs.Model.WriteBatch.{batch_of}
 use Rattle.rk_bytes.specs.Model.Records.{slot_cmp}
-use Rattle.rk_bytes.specs.Model.DiskImages.{Directory}
-use Rattle.rk_bytes.specs.Model.Salvage.{Files, readable_records, table_part, numbered, greatest_number, agreeing, placed, last_in_order, tables_in, logs_in, known_families, remainder_of, taken_records, of_files, free_lost_name, moves, report, repair_report}
+use Rattle.rk_bytes.specs.Model.Salvage.{Files, readable_records, table_part, numbered, greatest_number, agreeing, placed, last_in_order, TablePart, found_files, known_families, remainder_of, taken_records, report_of_files, free_lost_name, moves, repair_report}
 
 -- a table of `a` = `x` at sequence 1
 good_table : List ℕ
@@ -50,20 +48,35 @@ directory_with table = (codes "000004.sst", good_table) ∷ (codes "000005.log",
 
 -- a report, computed
 computed : Files → Result Report SurveyErr
-unfolding of_files numbered greatest_number agreeing placed free_lost_name moves readable_records table_part table_status table_with footer_of checked_block internal_key block_entries entries_after index_entries slot_cmp batch_of in_turn log_marks blocks_marks block_len pieces marks_from fragment_found found name_of digits crc32c crc_bytes crc_bits crc_bit
-computed files = of_files report files
+unfolding report_of_files numbered greatest_number agreeing placed free_lost_name moves readable_records table_part table_status table_with footer_of checked_block internal_key block_entries entries_after index_entries slot_cmp batch_of in_turn log_marks blocks_marks block_len pieces marks_from fragment_found found name_of digits crc32c crc_bytes crc_bits crc_bit
+computed files = report_of_files files
 
 -- what is admitted, in order, and what of it is added to the tables
 admitted : Files → List Record
 unfolding numbered agreeing placed readable_records table_part table_status table_with footer_of checked_block internal_key block_entries entries_after index_entries slot_cmp batch_of in_turn log_marks blocks_marks block_len pieces marks_from fragment_found found name_of digits crc32c crc_bytes crc_bits crc_bit
-admitted files = last_in_order (taken_records (tables_in files) (logs_in files))
+admitted files = last_in_order (taken_records (found_files files))
 
 added : Files → List Record
 unfolding numbered agreeing placed readable_records table_part table_status table_with footer_of checked_block internal_key block_entries entries_after index_entries slot_cmp batch_of in_turn log_marks blocks_marks block_len pieces marks_from fragment_found found name_of digits crc32c crc_bytes crc_bits crc_bit
-added files = remainder_of (tables_in files) (logs_in files)
+added files = remainder_of (found_files files)
 
 put_of : List ℕ → ℕ → List ℕ → Record
 put_of key sequence value = record { family = 0; key = key; sequence = sequence; kind = Value; value = value }
+
+-- the part of a table, computed
+part_computed : List ℕ → Option TablePart
+unfolding table_part readable_records footer_of checked_block crc32c crc_bytes crc_bits crc_bit block_entries entries_after index_entries
+part_computed table = table_part table
+
+-- the second block is read
+with_a_block_changed : part_computed damaged_table ≡ Some (record { family = 0; name = codes "default"; ranges = []; records = put_of (codes "n") 4 (codes "y") ∷ [] })
+unfolding part_computed damaged_table put_of
+with_a_block_changed = refl
+
+-- with a byte of the index changed there is no part
+with_the_index_changed : part_computed (take 65 damaged_table ++ 1 ∷ drop 66 damaged_table) ≡ None
+unfolding part_computed damaged_table
+with_the_index_changed = refl
 
 moved_logs : List Moved
 moved_logs = record { name = codes "000005.log"; lost = codes "lost/000005.log" } ∷ record { name = codes "000007.log"; lost = codes "lost/000007.log" } ∷ []
@@ -104,10 +117,9 @@ unfolding computed directory_with moved_table
 with_a_lost_log = refl
 
 -- the report of a directory is that of its files
-report_of : (files : Files) → T (is_sorted (slice_cmp nat_cmp) files) → repair_report (from_sorted files) ≡ of_files report files
-unfolding repair_report
-report_of files sorted = λ i. of_files report (entries-from_sorted (slice_cmp nat_cmp) files sorted i)
+report_of : (files : Files) → T (is_sorted (slice_cmp nat_cmp) files) → repair_report (from_sorted files) ≡ report_of_files files
+report_of files sorted = λ i. report_of_files (entries-from_sorted (slice_cmp nat_cmp) files sorted i)
 
 of_an_empty_directory : repair_report (from_sorted []) ≡ Ok (record { moved = []; families = 1; tables = 0; logs = 0; added = 0; archived = 0; records = 0 })
-unfolding of_files numbered greatest_number agreeing placed moves slot_cmp
+unfolding report_of_files numbered greatest_number agreeing placed moves slot_cmp
 of_an_empty_directory = report_of [] tt
