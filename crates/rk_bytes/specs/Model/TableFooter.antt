@@ -137,7 +137,8 @@ one_byte : ℕ → List ℕ → SumKind → Result (List ℕ) TrailerFault
 unfolding checked_block crc32c crc_bytes crc_bits crc_bit xxh32 xxh32_mixed xxh32_with_rest xxh64 xxh64_mixed xxh64_with_rest pieces
 one_byte type_byte stored sum = checked_block (9 ∷ 7 ∷ type_byte ∷ stored) (record { offset = 1; size = 1 }) sum
 
-of_each_sum : one_byte 0 (0xf1 ∷ 0 ∷ 0xb2 ∷ 31 ∷ []) Crc32c ∷ one_byte 0 (0x79 ∷ 39 ∷ 0xef ∷ 78 ∷ []) Xxh32 ∷ one_byte 0 (0xbc ∷ 87 ∷ 0xc0 ∷ 0x78 ∷ []) Xxh64 ∷ one_byte 0 (1 ∷ 2 ∷ 3 ∷ 4 ∷ []) NoSum ∷ []
+of_each_sum : one_byte 0 (0xf1 ∷ 0 ∷ 0xb2 ∷ 31 ∷ []) Crc32c ∷ one_byte 0 (0x79 ∷ 39 ∷ 0xef ∷ 78 ∷ []) Xxh32
+    ∷ one_byte 0 (0xbc ∷ 87 ∷ 0xc0 ∷ 0x78 ∷ []) Xxh64 ∷ one_byte 0 (1 ∷ 2 ∷ 3 ∷ 4 ∷ []) NoSum ∷ []
     ≡ replicate 4 (Ok (7 ∷ []))
 unfolding one_byte
 of_each_sum = refl
