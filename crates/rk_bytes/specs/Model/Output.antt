@@ -33,10 +33,11 @@ pub record Output : Type 0 where
   pub lines : List (List ℕ)
   pub status : Status
 
--- lines one after another, and the whole text of an output
+-- lines one after another
 abbrev pub joined : List (List ℕ) → List ℕ
 joined lines = flat_map (λ bytes. bytes) lines
 
+-- the whole text of an output
 abbrev pub text : Output → List ℕ
 text out = joined out.lines
 
@@ -50,10 +51,11 @@ exit_status SinkFault = 4
 exit_status Memory = 5
 exit_status NotFound = 6
 
--- lines that answer a command, and the line that refuses it
+-- the lines that answer a command
 abbrev pub written : List (List ℕ) → Output
 written lines = record { lines = lines; status = Done }
 
+-- the line that refuses a command
 abbrev pub refused : List ℕ → Output
 refused why = record { lines = refusal_line why ∷ []; status = Refused }
 
@@ -72,12 +74,13 @@ abbrev pub dump_wal_output : ℕ → Bool → Option (List ℕ) → Output
 dump_wal_output n hex None = refused (no_log_words n)
 dump_wal_output n hex (Some bytes) = written (flat_map (item_lines (codes "record") (batch_lines hex)) (log_items n bytes))
 
--- the bytes of the manifest that CURRENT names, and the version that it amounts to
+-- the bytes of the manifest that CURRENT names
 abbrev pub manifest_file : Files → Result (List ℕ) OpenErr
 manifest_file files = do
   number ← named_manifest files
   ok_or (files (manifest_name number)) (NoManifest number)
 
+-- the version that it amounts to
 abbrev pub manifest_version : Files → Result Version OpenErr
 manifest_version files = do
   number ← named_manifest files
@@ -155,10 +158,11 @@ salvage_state d = record {
   tombs = uncut_tombs d;
 }
 
--- how many records and keys a state has, or why there is none
+-- how many records and keys a state has
 abbrev pub state_counts : State → List ℕ
 state_counts state = count_words (record_count state) (key_count state)
 
+-- the same of a directory that was opened, or why it wasn't
 abbrev pub opened_counts : Result State OpenErr → List ℕ
 opened_counts (Ok state) = state_counts state
 opened_counts (Err why) = refused_words (open_err_words why)

@@ -12,6 +12,7 @@ use Rattle.rk_bytes.specs.declared.model.key.Record.{Record}
 use Rattle.rk_bytes.specs.declared.model.view.FamilyLine.{FamilyLine}
 use Rattle.rk_bytes.specs.declared.model.view.Tomb.{Tomb}
 use Rattle.rk_bytes.specs.declared.model.view.Point.{Point}
+use Rattle.rk_bytes.specs.declared.model.salvage.FamilyName.{FamilyName}
 use Rattle.rk_bytes.specs.declared.model.wal.Mode.{Mode}
 use Rattle.rk_bytes.specs.declared.model.command.How.{How}
 use Rattle.rk_bytes.specs.declared.model.command.How.TheVariants.{Normal, Best}
@@ -27,12 +28,12 @@ use Rattle.rk_bytes.specs.Model.KeyView.{State, Row, Answer, rows, view_records,
 use Rattle.rk_bytes.specs.Model.Replay.{replay}
 use Rattle.rk_bytes.specs.Model.Opening.{Files, Opened, Best as BestOpened, TableFile, named_manifest, version_in, listed_tables, table_file, tracked_log, family_line, table_records, table_tombs, log_tombs, logs_of, opened, open_files}
 use Rattle.rk_bytes.specs.Model.BestEfforts.{number_of_manifest, usable_units, are_complete, best_points, all_pass, is_whole_in, tables_at, best_line, last_families, best_with, best_files}
-use Rattle.rk_bytes.specs.Model.Drill.{drill_directory}
+use Rattle.rk_bytes.specs.Model.Drill.{drill_files, drill_directory}
 use Rattle.rk_bytes.specs.Model.TableStatus.{is_range_deletion}
-use Rattle.rk_bytes.specs.Model.Salvage.{placed, last_placed, last_in_order, tables_in, logs_in, known_families, taken_records, report, of_files, salvage_families, salvage_records, repair_report}
+use Rattle.rk_bytes.specs.Model.Salvage.{placed, last_placed, last_in_order, found_files, known_families, taken_records, report_of_files, salvage_families, salvage_records, repair_report}
 use Rattle.rk_bytes.specs.Model.Grammar.{KeyWord, key_bytes, Command, scan, get as get_key, families, manifest_dump, dump_wal, check, repair, sst, drill, all_modes}
 use Rattle.rk_bytes.specs.Model.Lines.{row_line, answer_line, manifest_line, point_line, ok_line, count_words, mode_line, best_efforts_line, drill_line, refused_words, open_err_words}
-use Rattle.rk_bytes.specs.Model.Output.{Output, written, refused, unless_refused, dump_wal_output, manifest_dump_output, families_output, sst_output, state_of, of_family, scan_output, answer_status, get_output, counts_line, check_output, repair_output, salvage_state, opened_counts, repair_line, drill_output, command_output}
+use Rattle.rk_bytes.specs.Model.Output.{Output, written, refused, unless_refused, dump_wal_output, manifest_dump_output, families_output, sst_output, state_of, of_family, scan_output, answer_status, get_output, counts_line, check_output, repair_output, salvage_state, state_counts, opened_counts, repair_line, drill_output, command_output}
 
 -- the files of a directory, by rising name
 abbrev pub Listing : Type 0
@@ -66,11 +67,13 @@ pub entries_put : {K X : Type 0} (R : K → K → Ordering) → IsTotalOrder R �
 entries_put R ordered [] = no_entries R
 entries_put R ordered (entry ∷ list) = entries-insert ordered (from_entries list) entry.0 entry.1 ∙ ap (put R entry.0 entry.1) (entries_put R ordered list)
 
+-- records are placed so
 is_placed : (list : List (Slot × Record)) → all_put slot_cmp list ≡ placed list
 unfolding placed
 is_placed [] = λ i. []
 is_placed (entry ∷ list) = ap (put slot_cmp entry.0 entry.1) (is_placed list)
 
+-- the entries of a record map
 entries_placed : (records : List Record) → entries (last_records records) ≡ last_placed records
 unfolding last_records
 entries_placed records = let list = map (λ r. (slot_of r, r)) (reverse records) in entries_put slot_cmp slots_ordered list ∙ is_placed list
@@ -87,37 +90,46 @@ pub record Listed : Type 0 where
   pub records : List Record
   pub tombs : List Tomb
 
+-- it as a state
 abbrev pub as_state : Listed → State
 as_state listed = record { families = listed.families; records = last_records listed.records; tombs = listed.tombs }
 
+-- what is shown of a key
 unfoldable pub answer_in : Listed → ℕ → List ℕ → Answer
 answer_in listed family key = shown (deciding (uncovered listed.tombs family key (last_in_order listed.records)))
 
+-- is what the state shows
 answer_listed : (listed : Listed) (family : ℕ) (key : List ℕ) → answer (as_state listed) family key ≡ answer_in listed family key
 unfolding view_records answer_in
 answer_listed listed family key =
     ap (λ list. shown (deciding (uncovered listed.tombs family key (map (λ (entry : Slot × Record). entry.1) list)))) (entries_placed listed.records)
 
+-- the rows of a family
 unfoldable pub rows_in : Listed → ℕ → Option (List ℕ) → Option (List ℕ) → List Row
 unfolding answer_in
 rows_in listed family from to = filter_map (λ key. row_of key (answer_in listed family key)) (filter (is_between from to) (keys_in (last_in_order listed.records) family))
 
+-- are those of the state
 rows_listed : (listed : Listed) (family : ℕ) (from to : Option (List ℕ)) → rows (as_state listed) family from to ≡ rows_in listed family from to
 unfolding rows view_records rows_in answer_in
 rows_listed listed family from to = ap (λ list. let records = map (λ (entry : Slot × Record). entry.1) list in
     filter_map (λ key. row_of key (shown (deciding (uncovered listed.tombs family key records)))) (filter (is_between from to) (keys_in records family))) (entries_placed listed.records)
 
+-- how many records there are
 unfoldable pub count_in : Listed → ℕ
 count_in listed = min (length (last_placed listed.records)) (2 ^ 64 - 1)
 
+-- is what the state counts
 count_listed : (listed : Listed) → record_count (as_state listed) ≡ count_in listed
 unfolding count_in
 count_listed listed = ap (λ n. min n (2 ^ 64 - 1)) (len-entries (last_records listed.records) ∙ ap length (entries_placed listed.records))
 
+-- how many keys are shown
 unfoldable pub keys_shown : Listed → ℕ
 unfolding rows_in
 keys_shown listed = min (sum (map (λ line. length (rows_in listed line.id None None)) listed.families)) (2 ^ 64 - 1)
 
+-- is what the state counts, too
 keys_listed : (listed : Listed) → key_count (as_state listed) ≡ keys_shown listed
 unfolding keys_shown
 keys_listed listed = λ i. min (sum (map (λ line. length (rows_listed listed line.id None None i)) listed.families)) (2 ^ 64 - 1)
@@ -147,9 +159,11 @@ opened_to mode files = do
 abbrev state_in : Opened → Result State OpenErr
 state_in opened = Ok opened.state
 
+-- what is listed, as a state that was opened
 abbrev as_opened : Listed → Result State OpenErr
 as_opened listed = Ok (as_state listed)
 
+-- Files are opened to it.
 opened_listed : (mode : Mode) (files : Listing) → open_files mode (file_in files) (logs_of files) >>= state_in ≡ opened_to mode files >>= as_opened
 unfolding open_files opened_to
 opened_listed mode files =
@@ -165,36 +179,45 @@ pub record ListedBest : Type 0 where
   pub units : ℕ
   pub points : List Point
 
+-- it as what is opened
 abbrev as_best : ListedBest → Result BestOpened OpenErr
 as_best best = Ok (record { state = as_state best.listed; manifest = best.manifest; units = best.units; points = best.points })
 
+-- the numbers of manifests among files
 abbrev numbers_in : Listing → List ℕ
 numbers_in files = filter_map (λ (file : List ℕ × List ℕ). number_of_manifest (name_of file.0)) files
 
+-- the number of the manifest that is taken
 abbrev best_number : Listing → Result ℕ OpenErr
 best_number files = ok_or (reduce max (filter (λ number. are_complete (usable_units (file_in files) number)) (numbers_in files))) NoUsableManifest
 
+-- the best points of its units
 abbrev points_in : Listing → List ManifestUnit → List Point
 points_in files units = best_points units (all_pass (is_whole_in (file_in files)) units)
 
+-- what tables at these points are listed to
 abbrev listed_at : ℕ → List ManifestUnit → List Point → List TableFile → Result ListedBest OpenErr
 listed_at number units points tables = Ok (record { listed = listed_of (map (best_line units points) (last_families units)) tables []; manifest = number; units = length units; points = points })
 
+-- the tables at the points, listed
 abbrev tables_to : Listing → ℕ → List ManifestUnit → List Point → Result ListedBest OpenErr
 tables_to files number units points = do
   tables ← collected (table_file (file_in files)) (tables_at units points)
   listed_at number units points tables
 
+-- what files are opened to by best efforts
 unfoldable pub best_to : Listing → Result ListedBest OpenErr
 best_to files = do
   number ← best_number files
   let units = usable_units (file_in files) number
   tables_to files number units (points_in files units)
 
+-- the same, of a last step alone
 same_last : {A C D F : Type 0} (r : Result A F) (f : A → Result D F) (g : A → Result C F) (k : C → Result D F) → ((one : A) → f one ≡ g one >>= k) → r >>= f ≡ (r >>= g) >>= k
 same_last (Ok one) f g k is = is one
 same_last (Err why) f g k is = λ i. Err why
 
+-- Files are opened to it.
 best_listed : (files : Listing) → best_files (file_in files) (numbers_in files) ≡ best_to files >>= as_best
 unfolding best_files best_with best_to
 best_listed files =
@@ -208,46 +231,57 @@ best_listed files =
 
 -- ---- commands
 
+-- `scan` of what is listed
 unfoldable pub scan_listed : Option (List ℕ) → Option KeyWord → Option KeyWord → Bool → Result Listed OpenErr → Output
 scan_listed named from to hex opened =
     unless_refused open_err_words (λ listed. of_family named (λ id. written (map (row_line hex) (rows_in listed id (option_map key_bytes from) (option_map key_bytes to)))) (as_state listed)) opened
 
+-- is that of its state
 scan_same : (named : Option (List ℕ)) (from to : Option KeyWord) (hex : Bool) (opened : Result Listed OpenErr) → scan_output named from to hex (opened >>= as_opened) ≡ scan_listed named from to hex opened
 unfolding scan_listed
 scan_same named from to hex (Ok listed) = λ i. of_family named (λ id. written (map (row_line hex) (rows_listed listed id (option_map key_bytes from) (option_map key_bytes to) i))) (as_state listed)
 scan_same named from to hex (Err why) = λ i. refused (open_err_words why)
 
+-- the output for a key of which this is shown
 answered : Bool → Answer → Output
 answered hex shown = record { lines = answer_line hex shown ∷ []; status = answer_status shown }
 
+-- `get` of what is listed
 unfoldable pub get_listed : KeyWord → Option (List ℕ) → Bool → Result Listed OpenErr → Output
 unfolding answered
 get_listed key named hex opened = unless_refused open_err_words (λ listed. of_family named (λ id. answered hex (answer_in listed id (key_bytes key))) (as_state listed)) opened
 
+-- is that of its state
 get_same : (key : KeyWord) (named : Option (List ℕ)) (hex : Bool) (opened : Result Listed OpenErr) → get_output key named hex (opened >>= as_opened) ≡ get_listed key named hex opened
 unfolding get_listed answered
 get_same key named hex (Ok listed) = λ i. of_family named (λ id. answered hex (answer_listed listed id (key_bytes key) i)) (as_state listed)
 get_same key named hex (Err why) = λ i. refused (open_err_words why)
 
+-- the line of these families and of so many records
 abbrev ok_line_of : List FamilyLine → ℕ → List ℕ
 ok_line_of lines count = ok_line (length lines) (min (sum (map (λ line. line.files) lines)) (2 ^ 64 - 1)) count
 
+-- `check` of what is listed
 unfoldable pub check_listed : Result Listed OpenErr → Output
 check_listed opened = unless_refused open_err_words (λ listed. written (ok_line_of listed.families (count_in listed) ∷ [])) opened
 
+-- is that of its state
 check_same : (opened : Result Listed OpenErr) → unless_refused open_err_words (λ state. written (counts_line state ∷ [])) (opened >>= as_opened) ≡ check_listed opened
 unfolding check_listed
 check_same (Ok listed) = λ i. written (ok_line_of listed.families (count_listed listed i) ∷ [])
 check_same (Err why) = λ i. refused (open_err_words why)
 
+-- The state alone counts.
 check_state : (opened : Result Opened OpenErr) → unless_refused open_err_words (λ one. written (counts_line one.state ∷ [])) opened ≡ unless_refused open_err_words (λ state. written (counts_line state ∷ [])) (opened >>= state_in)
 check_state (Ok opened) = λ i. written (counts_line opened.state ∷ [])
 check_state (Err why) = λ i. refused (open_err_words why)
 
+-- `check` by best efforts
 unfoldable pub check_best_listed : Result ListedBest OpenErr → Output
 check_best_listed opened =
     unless_refused open_err_words (λ best. written (manifest_line best.manifest best.units ∷ map point_line best.points ++ ok_line_of best.listed.families (count_in best.listed) ∷ [])) opened
 
+-- is that of its state
 check_best_same : (opened : Result ListedBest OpenErr)
     → unless_refused open_err_words (λ best. written (manifest_line best.manifest best.units ∷ map point_line best.points ++ counts_line best.state ∷ [])) (opened >>= as_best) ≡ check_best_listed opened
 unfolding check_best_listed
@@ -261,22 +295,75 @@ state_to Best files = do
   best ← best_to files
   Ok best.listed
 
+-- The state alone counts.
 state_of_best : (opened : Result ListedBest OpenErr) → (opened >>= as_best) >>= (λ best. Ok best.state) ≡ (opened >>= λ best. Ok best.listed) >>= as_opened
 state_of_best (Ok best) = λ i. Ok (as_state best.listed)
 state_of_best (Err why) = λ i. Err why
 
+-- A directory is opened as its files are,
 opened_by : (mode : Mode) (d : Directory) (files : Listing) → entries d ≡ files → open_files mode (get d) (logs_of (entries d)) ≡ open_files mode (file_in files) (logs_of files)
 opened_by mode d files lists = λ i. open_files mode (λ name. found_in d files lists name i) (logs_of (lists i))
 
+-- by best efforts, too,
 best_by : (d : Directory) (files : Listing) → entries d ≡ files → best_files (get d) (numbers_in (entries d)) ≡ best_files (file_in files) (numbers_in files)
 best_by d files lists = λ i. best_files (λ name. found_in d files lists name i) (numbers_in (lists i))
 
+-- and to the state of what is listed.
 state_same : (how : How) (d : Directory) (files : Listing) → entries d ≡ files → state_of how d ≡ state_to how files >>= as_opened
 state_same (Normal mode) d files lists = ap (λ opened. opened >>= state_in) (opened_by mode d files lists) ∙ opened_listed mode files
 state_same Best d files lists =
     ap (λ opened. opened >>= (λ best. Ok best.state)) (best_by d files lists ∙ best_listed files) ∙ state_of_best (best_to files)
 
--- What a command writes of listed files. A drill looks at none of them.
+-- the counts of what is listed, or why it isn't opened
+unfoldable pub listed_counts : Result Listed OpenErr → List ℕ
+listed_counts (Ok listed) = count_words (count_in listed) (keys_shown listed)
+listed_counts (Err why) = refused_words (open_err_words why)
+
+-- are those of its state
+counts_same : (opened : Result Listed OpenErr) → opened_counts (opened >>= as_opened) ≡ listed_counts opened
+unfolding listed_counts
+counts_same (Ok listed) = λ i. count_words (count_listed listed i) (keys_listed listed i)
+counts_same (Err why) = λ i. refused_words (open_err_words why)
+
+-- the lines of the families of a salvage
+abbrev salvage_lines : List FamilyName → List FamilyLine
+salvage_lines known = map (λ family. record { id = family.id; name = family.name; log = 0; files = 0 }) known
+
+-- the range deletions among records
+abbrev tombs_among : List Record → List Tomb
+tombs_among records = map (tomb_of None) (filter (λ r. is_range_deletion r.kind) records)
+
+-- the salvage of files
+unfoldable pub salvage_in : Listing → Listed
+salvage_in files = let taken = taken_records (found_files files) in
+    record { families = salvage_lines (known_families (found_files files)); records = taken; tombs = tombs_among (last_in_order taken) }
+
+-- has the counts of the salvage of the directory
+salvage_same : (d : Directory) (files : Listing) → entries d ≡ files → state_counts (salvage_state d) ≡ listed_counts (Ok (salvage_in files))
+unfolding listed_counts salvage_in salvage_families salvage_records
+salvage_same d files lists =
+    let of_records = λ (lines : List FamilyLine) (taken values : List Record). state_counts (record { families = lines; records = last_records taken; tombs = tombs_among values }) in
+    let taken = taken_records (found_files files) in let lines = salvage_lines (known_families (found_files files)) in
+    (λ i. let there = lists i in let records = taken_records (found_files there) in of_records (salvage_lines (known_families (found_files there))) records (values (last_records records)))
+    ∙ (ap (λ list. of_records lines taken (map (λ (entry : Slot × Record). entry.1) list)) (entries_placed taken) ∙ counts_same (Ok (salvage_in files)))
+
+-- `drill` of listed files
+unfoldable pub drill_listed : ℕ → Listing → Output
+drill_listed n files = written (drill_line n ∷ map (λ mode. mode_line mode (listed_counts (opened_to mode files))) all_modes
+    ++ best_efforts_line (listed_counts (state_to Best files)) ∷ repair_line (report_of_files files) ∷ map (λ mode. mode_line mode (listed_counts (Ok (salvage_in files)))) all_modes)
+
+-- is that of the directory, in a mode and as a whole
+mode_same : (mode : Mode) (d : Directory) (files : Listing) → entries d ≡ files → opened_counts (state_of (Normal mode) d) ≡ listed_counts (opened_to mode files)
+mode_same mode d files lists = ap opened_counts (state_same (Normal mode) d files lists) ∙ counts_same (opened_to mode files)
+
+drill_same : (n : ℕ) (d : Directory) (files : Listing) → entries d ≡ files → drill_output n d ≡ drill_listed n files
+unfolding drill_listed
+drill_same n d files lists =
+    let best = ap opened_counts (state_same Best d files lists) ∙ counts_same (state_to Best files) in
+    λ i. written (drill_line n ∷ map (λ mode. mode_line mode (mode_same mode d files lists i)) all_modes
+    ++ best_efforts_line (best i) ∷ repair_line (report_of_files (lists i)) ∷ map (λ mode. mode_line mode (salvage_same d files lists i)) all_modes)
+
+-- What a command writes of listed files. A drill looks at none of them, but at its own.
 unfoldable pub on_files : Command → Listing → Output
 on_files (scan named how from to hex) files = scan_listed named from to hex (state_to how files)
 on_files (get_key key named how hex) files = get_listed key named hex (state_to how files)
@@ -285,13 +372,13 @@ on_files (manifest_dump hex) files = manifest_dump_output hex (file_in files)
 on_files (dump_wal n hex) files = dump_wal_output n hex (file_in files (log_name n))
 on_files (check (Normal mode)) files = check_listed (opened_to mode files)
 on_files (check Best) files = check_best_listed (best_to files)
-on_files repair files = repair_output (of_files report files)
+on_files repair files = repair_output (report_of_files files)
 on_files (sst n part hex) files = sst_output n part hex (file_in files (table_name n))
-on_files (drill n) files = command_output (Some (drill n)) empty
+on_files (drill n) files = drill_listed n (all_put (slice_cmp nat_cmp) (drill_files n))
 
 -- A command writes of a directory what it writes of the list of its files.
 pub by_files : (command : Command) (d : Directory) (files : Listing) → entries d ≡ files → command_output (Some command) d ≡ on_files command files
-unfolding command_output on_files repair_report
+unfolding command_output on_files drill_directory
 by_files (scan named how from to hex) d files lists = ap (scan_output named from to hex) (state_same how d files lists) ∙ scan_same named from to hex (state_to how files)
 by_files (get_key key named how hex) d files lists = ap (get_output key named hex) (state_same how d files lists) ∙ get_same key named hex (state_to how files)
 by_files families d files lists = λ i. families_output (λ name. found_in d files lists name i)
@@ -303,6 +390,6 @@ by_files (check (Normal mode)) d files lists =
 by_files (check Best) d files lists =
     ap (unless_refused open_err_words (λ best. written (manifest_line best.manifest best.units ∷ map point_line best.points ++ counts_line best.state ∷ []))) (best_by d files lists ∙ best_listed files)
     ∙ check_best_same (best_to files)
-by_files repair d files lists = λ i. repair_output (of_files report (lists i))
+by_files repair d files lists = λ i. repair_output (report_of_files (lists i))
 by_files (sst n part hex) d files lists = λ i. sst_output n part hex (found_in d files lists (table_name n) i)
-by_files (drill n) d files lists = λ i. drill_output n (drill_directory n)
+by_files (drill n) d files lists = drill_same n (drill_directory n) (all_put (slice_cmp nat_cmp) (drill_files n)) (entries_put (slice_cmp nat_cmp) nat_list_cmp_total (drill_files n))

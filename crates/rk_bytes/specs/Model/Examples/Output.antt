@@ -17,18 +17,21 @@ use Rattle.rk_bytes.specs.Model.Records.{slot_cmp}
 use Rattle.rk_bytes.specs.Model.WriteBatch.{batch_of}
 use Rattle.rk_bytes.specs.Model.BlockEntries.{block_entries, entries_after, index_entries}
 use Rattle.rk_bytes.specs.Model.TableFooter.{footer_of, checked_block}
-use Rattle.rk_bytes.specs.Model.TableStatus.{table_with, table_status}
+use Rattle.rk_bytes.specs.Model.TableStatus.{property_list, table_with, table_status}
 use Rattle.rk_bytes.specs.Model.VersionEdit.{after_customs, synced_sizes_at, edit_fields}
 use Rattle.rk_bytes.specs.Model.Manifest.{edits_of, parted_units, steps_in_order, edit_step, overlap, unit_step, version_after}
 use Rattle.rk_bytes.specs.Model.KeyView.{covers}
 use Rattle.rk_bytes.specs.Model.Replay.{replay}
 use Rattle.rk_bytes.specs.Model.Opening.{table_file}
 use Rattle.rk_bytes.specs.Model.BestEfforts.{lowered_until}
-use Rattle.rk_bytes.specs.Model.Salvage.{placed, numbered, greatest_number, agreeing, readable_records, table_part, of_files, free_lost_name, moves}
+use Rattle.rk_bytes.specs.Model.Salvage.{placed, numbered, greatest_number, agreeing, readable_records, table_part, report_of_files, free_lost_name, moves}
+use Rattle.rk_bytes.specs.Model.WrittenLogs.{fragment_bytes, later_fragments, record_fragments, record_pieces, written_record, written_log}
+use Rattle.rk_bytes.specs.Model.Writers.{batch_bytes, grouped, run_bytes, block_bytes, table_bytes, edit_bytes}
+use Rattle.rk_bytes.specs.Model.Drill.{drill_table, drill_manifest, drill_torn_log, drill_log}
 use Rattle.rk_bytes.specs.Model.Grammar.{Command, command_of, scan_of, get_of, dump_wal_of, check_of, sst_of, drill_of}
 use Rattle.rk_bytes.specs.Model.Lines.{line, refusal_line, usage_line, quoted, batch_lines, edit_lines}
 use Rattle.rk_bytes.specs.Model.Output.{Output, written, refused, command_output, output}
-use Rattle.rk_bytes.specs.Model.Examples.Directories.{Listing, answer_in, rows_in, count_in, opened_to, best_to, scan_listed, get_listed, check_listed, check_best_listed, on_files, by_files}
+use Rattle.rk_bytes.specs.Model.Examples.Directories.{Listing, answer_in, rows_in, count_in, opened_to, best_to, scan_listed, get_listed, check_listed, check_best_listed, listed_counts, keys_shown, salvage_in, drill_listed, on_files, by_files}
 
 -- the words of a text, in which single spaces stand between them
 spoken : List ℕ → List (List ℕ)
@@ -69,8 +72,13 @@ over_listed files texts sorted = λ i. map (λ text. one_listed (command_of (spo
 
 -- all that the lines are computed by
 unfoldable computation : Unit {0}
-unfolding spoken over_one of_lines refusal usage not_found command_of scan_of get_of dump_wal_of check_of sst_of drill_of digits decode_pairs encode_with quoted batch_lines edit_lines batch_of in_turn log_marks blocks_marks block_len marks_from fragment_found found pieces crc32c crc_bytes crc_bits crc_bit answer_in rows_in count_in opened_to best_to scan_listed get_listed check_listed check_best_listed on_files name_of current_manifest internal_key slot_cmp block_entries entries_after index_entries footer_of checked_block table_with table_status after_customs synced_sizes_at edit_fields edits_of parted_units steps_in_order edit_step overlap unit_step version_after covers replay table_file lowered_until placed numbered greatest_number agreeing readable_records table_part of_files free_lost_name moves
+unfolding spoken over_one of_lines refusal usage not_found command_of scan_of get_of dump_wal_of check_of sst_of drill_of digits decode_pairs encode_with quoted batch_lines edit_lines batch_of in_turn log_marks blocks_marks block_len marks_from fragment_found found pieces crc32c crc_bytes crc_bits crc_bit answer_in rows_in count_in opened_to best_to scan_listed get_listed check_listed check_best_listed on_files name_of current_manifest internal_key slot_cmp block_entries entries_after index_entries footer_of checked_block table_with table_status after_customs synced_sizes_at edit_fields edits_of parted_units steps_in_order edit_step overlap unit_step version_after covers replay table_file lowered_until placed numbered greatest_number agreeing readable_records table_part report_of_files free_lost_name moves
 computation = tt
+
+-- all that the directory of a drill is computed by
+unfoldable drilled : Unit {0}
+unfolding drill_table drill_manifest drill_torn_log drill_log batch_bytes grouped run_bytes block_bytes table_bytes edit_bytes fragment_bytes later_fragments record_fragments record_pieces written_record written_log property_list listed_counts keys_shown salvage_in drill_listed
+drilled = tt
 
 -- what `CURRENT` holds
 current : List ℕ
@@ -187,7 +195,7 @@ of_no_file : over ([]) (codes "check" ∷ codes "check --best-efforts" ∷ codes
     ∷ refusal (codes "NoCurrent")
     ∷ of_lines (codes "repaired: families 1 tables 0 logs 0 added 0 archived 0 records 0" ∷ [])
     ∷ usage ∷ []
-unfolding computation 
+unfolding computation
 of_no_file = over_listed ([]) (codes "check" ∷ codes "check --best-efforts" ∷ codes "dump_wal 3" ∷ codes "sst 4 check" ∷ codes "manifest_dump" ∷ codes "families" ∷ codes "repair" ∷ codes "get" ∷ []) tt
 
 of_a_new_database : over (with_manifest first_record) (codes "manifest_dump" ∷ codes "families" ∷ codes "check" ∷ codes "check --best-efforts" ∷ [])
@@ -311,7 +319,7 @@ of_a_short_log = over_listed (with_tracked (take 47 log_of_two)) (codes "scan --
 of_an_absent_log : over (with_manifest (first_record ++ tracked)) (codes "scan" ∷ codes "repair" ∷ [])
     ≡ refusal (codes "MissingLog 3")
     ∷ of_lines (codes "repaired: families 1 tables 0 logs 0 added 0 archived 0 records 0" ∷ []) ∷ []
-unfolding computation with_tracked with_manifest current first_record tracked 
+unfolding computation with_tracked with_manifest current first_record tracked
 of_an_absent_log = over_listed (with_manifest (first_record ++ tracked)) (codes "scan" ∷ codes "repair" ∷ []) tt
 
 of_a_forgotten_log : over (with_manifest (first_record ++ tracked ++ forgotten)) (codes "scan" ∷ [])
@@ -322,13 +330,13 @@ of_a_forgotten_log = over_listed (with_manifest (first_record ++ tracked ++ forg
 of_a_log_that_goes_on : over (with_logs log_at_two first_record) (codes "scan" ∷ codes "scan --mode=3" ∷ [])
     ≡ of_lines (codes "\"a\" => \"1\"" ∷ codes "\"b\" => \"2\"" ∷ [])
     ∷ of_lines (codes "\"a\" => \"1\"" ∷ codes "\"b\" => \"2\"" ∷ []) ∷ []
-unfolding computation with_logs with_manifest current first_record damaged_log log_at_two log_at_three 
+unfolding computation with_logs with_manifest current first_record damaged_log log_at_two log_at_three
 of_a_log_that_goes_on = over_listed (with_logs log_at_two first_record) (codes "scan" ∷ codes "scan --mode=3" ∷ []) tt
 
 of_a_log_that_waits : over (with_logs log_at_three first_record) (codes "scan" ∷ codes "scan --mode=0" ∷ [])
     ≡ of_lines (codes "\"a\" => \"1\"" ∷ [])
     ∷ refusal (codes "Corrupt 5 24 Checksum") ∷ []
-unfolding computation with_logs with_manifest current first_record damaged_log log_at_two log_at_three 
+unfolding computation with_logs with_manifest current first_record damaged_log log_at_two log_at_three
 of_a_log_that_waits = over_listed (with_logs log_at_three first_record) (codes "scan" ∷ codes "scan --mode=0" ∷ []) tt
 
 of_a_family_ahead : over ((codes "000004.sst", table) ∷ with_logs log_at_three (first_record ++ family_ahead)) (codes "scan" ∷ codes "families" ∷ codes "scan --family=one --best-efforts" ∷ [])
@@ -360,3 +368,9 @@ of_a_repair : over ((codes "000004.sst", table) ∷ (codes "000005.log", log_of_
     ∷ refusal (codes "NoCurrent") ∷ []
 unfolding computation table log_of_five log_of_seven
 of_a_repair = over_listed ((codes "000004.sst", table) ∷ (codes "000005.log", log_of_five) ∷ (codes "000006.sst", replicate 10 0) ∷ (codes "000007.log", log_of_seven) ∷ []) (codes "repair" ∷ codes "scan" ∷ []) tt
+
+-- a drill looks at no file of the directory
+of_three_keys : over ([]) (codes "drill 3" ∷ [])
+    ≡ of_lines (codes "drill 3" ∷ codes "mode 0: records 8 keys 5" ∷ codes "mode 1: refused: Corrupt 5 76 Torn" ∷ codes "mode 2: records 5 keys 5" ∷ codes "mode 3: records 8 keys 5" ∷ codes "best-efforts: records 3 keys 3" ∷ codes "repaired: families 1 tables 1 logs 2 added 1 archived 0 records 8" ∷ codes "mode 0: records 8 keys 5" ∷ codes "mode 1: records 8 keys 5" ∷ codes "mode 2: records 8 keys 5" ∷ codes "mode 3: records 8 keys 5" ∷ []) ∷ []
+unfolding computation drilled
+of_three_keys = over_listed ([]) (codes "drill 3" ∷ []) tt
