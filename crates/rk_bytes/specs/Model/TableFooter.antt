@@ -107,10 +107,6 @@ version_before_checksum : footer_of (newer 4 6) ≡ Err (UnsupportedVersion 6)
 unfolding footer_of newer
 version_before_checksum = refl
 
-with_a_byte_less : footer_of (drop 1 (newer 3 5)) ≡ Err FooterShort
-unfolding footer_of newer
-with_a_byte_less = refl
-
 place_of_a_newer_footer : footer_start (0 ∷ 0 ∷ newer 3 5) ≡ 2
 unfolding newer
 place_of_a_newer_footer = refl
@@ -128,9 +124,15 @@ of_bad_handles : map footer_of ((replicate 40 0xFF ++ drop 40 legacy) ∷ (26 �
 unfolding footer_of legacy
 of_bad_handles = refl
 
-of_no_footer : map footer_of (replicate 48 0 ∷ newer 4 5 ∷ newer 3 0 ∷ []) ≡ Err BadMagic ∷ Err (UnsupportedChecksum 4) ∷ Err (UnsupportedVersion 0) ∷ []
+-- with a byte less, without a magic number, with checksum kind 4, and with version 0
+of_no_footer : map footer_of (drop 1 (newer 3 5) ∷ replicate 48 0 ∷ newer 4 5 ∷ newer 3 0 ∷ [])
+    ≡ Err FooterShort ∷ Err BadMagic ∷ Err (UnsupportedChecksum 4) ∷ Err (UnsupportedVersion 0) ∷ []
 unfolding footer_of newer
 of_no_footer = refl
+
+of_each_kind : map (λ kind. footer_of (newer kind 1) >>= λ footer. Ok footer.sum) (0 ∷ 1 ∷ 2 ∷ 3 ∷ []) ≡ Ok NoSum ∷ Ok Crc32c ∷ Ok Xxh32 ∷ Ok Xxh64 ∷ []
+unfolding footer_of newer
+of_each_kind = refl
 
 -- the block of this type whose one byte stands at 1, with the four bytes of its sum
 one_byte : ℕ → List ℕ → SumKind → Result (List ℕ) TrailerFault
