@@ -92,3 +92,10 @@ of_a_short_separator : map (λ properties. index_at (of_entries (0 ∷ 7 ∷ 2 �
     [] ∷ (record { name = codes "rocksdb.index.key.is.user.key"; value = 1 ∷ [] } ∷ []) ∷ []) ≡ Err (damaged BadKey 3) ∷ Ok (index_of 0 (codes "abcdefg") ∷ []) ∷ []
 unfolding index_entries block_entries entries_after of_entries index_of
 of_a_short_separator = refl
+
+-- Of two records, the last isn't above the separator, and the first is above the one before.
+of_two_records : of_one_block true (Some (codes "a")) (codes "c") (entry_of (codes "b") 5 1 ++ entry_of (codes "c") 5 1) ∷ of_one_block true None (codes "b") (entry_of (codes "b") 5 1 ++ entry_of (codes "c") 5 1)
+    ∷ of_one_block true (Some (codes "b")) (codes "c") (entry_of (codes "b") 5 1 ++ entry_of (codes "c") 5 1) ∷ []
+    ≡ Ok (codes "b" ∷ codes "c" ∷ []) ∷ Err (damaged BadSeparator 3) ∷ Err (damaged BadSeparator 3) ∷ []
+unfolding of_one_block entry_of
+of_two_records = refl
