@@ -14,7 +14,6 @@ mod EditTracked
 mod EntryLemmas
 mod FilesAtPoints
 mod FixedNumbers
-mod InTurn
 mod IndexLaw
 mod KeyViewLemmas
 mod KeyViewRows
