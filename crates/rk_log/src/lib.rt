@@ -1,16 +1,15 @@
-//! The records of a write-ahead log or a manifest, read from the bytes of its file, and the checksum
-//! that is stored with each of them.
+//! The records of a write-ahead log or a manifest: read from the bytes of its file, which are handed
+//! in whole or block by block, and written.
 #![tactic(auto)]
 
+mod block;
+mod feed;
 mod fragment;
+mod header;
 mod item;
-mod reader;
-mod rest;
-pub mod sum;
+mod joining;
 
-pub use item::{Item, Piece};
-pub use reader::LogReader;
+pub use block::BLOCK_LEN;
+pub use feed::LogFeed;
+pub use item::{FeedItem, Item, Piece};
 pub use rk_bytes::model::{EndKind, GapWhy};
-
-#[cfg(test)]
-mod tests;
