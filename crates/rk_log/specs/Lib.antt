@@ -3,3 +3,4 @@ pub mod Fragments
 pub mod Blocks
 pub mod Left
 pub mod Steps
+pub mod Walk

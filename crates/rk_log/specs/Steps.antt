@@ -16,7 +16,7 @@ use Rattle.rk_log.specs.declared.feed.LogFeed.{LogFeed}
 use Rattle.rk_log.specs.declared.fragment.Mark as Found
 use Rattle.rk_log.specs.Fragments.{mark_at}
 use Rattle.rk_log.specs.Items.{item_of, is_end}
-use Rattle.rk_log.specs.Left.{Gives, splits_next, left_behind, rest_marks, left, bytes_before, has_ended}
+use Rattle.rk_log.specs.Left.{Left, Gives, splits_next, left_behind, rest_marks, left, bytes_before, has_ended}
 
 -- The mark is taken: it ends an item, or it goes into the unfinished record, or memory ran out for that
 -- and nothing changed.
@@ -103,3 +103,8 @@ Feeds old block is_last (Err memory) new = Waits old block is_last new
 abbrev pub end_in : Option Unfinished → EndKind → ℕ → End
 end_in None kind place = record { kind = kind; place = place }
 end_in (Some one) kind place = record { kind = Torn; place = one.place }
+
+-- The next item is given, or memory ran out for the parts of a split record, and nothing changed.
+abbrev pub Reads : Left → Result Item Memory → Left → Type 0
+Reads old (Ok item) new = Gives old (item_of item) new
+Reads old (Err memory) new = (new ≡ old) × (splits_next old ≡ true)

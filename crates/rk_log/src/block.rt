@@ -1,5 +1,5 @@
 //! The blocks of a log's file.
-ghost use Rattle.std.specs.Prelude.{◌≡◌, drop};
+ghost use Rattle.std.specs.Prelude.{◌≡◌, ◌<◌, ◌≤◌, ◌++◌, length, drop};
 ghost use Rattle.rk_bytes.specs.Model.LogMarks.{block_len};
 ghost use Rattle.rk_log.specs.Blocks.{block_says};
 
@@ -25,4 +25,14 @@ pub(crate) fn behind(block: &[u8], at: usize) -> &[u8]
 {
     let at = at.min(block.len());
     &block[at..]
+}
+
+/// The first block of the bytes, which is shorter where they end, and what follows it.
+pub(crate) fn cut_block(bytes: &[u8]) -> (&[u8], &[u8])
+    ensures whole { result.0.now ++ result.1.now ≡ bytes.now }
+    ensures within { length result.0.now ≤ BLOCK_LEN }
+    ensures full { 0 < length result.1.now → length result.0.now ≡ BLOCK_LEN }
+{
+    let end = bytes.len().min(BLOCK_LEN);
+    bytes.split_at(end)
 }

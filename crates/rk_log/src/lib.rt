@@ -8,8 +8,10 @@ mod fragment;
 mod header;
 mod item;
 mod joining;
+mod reader;
 
 pub use block::BLOCK_LEN;
 pub use feed::LogFeed;
 pub use item::{FeedItem, Item, Piece};
+pub use reader::LogReader;
 pub use rk_bytes::model::{EndKind, GapWhy};
