@@ -2,6 +2,7 @@ pub mod Numbers
 pub mod Checksums
 pub mod LogMarks
 pub mod LogItems
+pub mod WrittenLogs
 pub mod FileNames
 pub mod DiskImages
 pub mod BlockEntries

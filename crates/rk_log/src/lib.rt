@@ -15,3 +15,6 @@ pub use feed::LogFeed;
 pub use item::{FeedItem, Item, Piece};
 pub use reader::LogReader;
 pub use rk_bytes::model::{EndKind, GapWhy};
+
+#[cfg(test)]
+mod tests;

@@ -28,6 +28,7 @@ impl<'a> Model for LogReader<'a> {
     ghost use Rattle.rk_log.specs.Walk.{walk_left, WalkFits};
 
     ghost view = { λ a. walk_left a.feed a.number a.rest.now };
+
     ghost invariant = { λ a. WalkFits a.feed (length a.rest.now) };
 }
 
