@@ -3,6 +3,8 @@
 
 mod part;
 mod record;
+mod view;
 
 pub use record::BatchRecord;
 pub use rk_bytes::model::{BatchFault, Kind, LogWhat};
+pub use view::BatchView;
