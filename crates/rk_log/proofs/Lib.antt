@@ -1,4 +1,5 @@
-mod Registers
-mod Tables
+mod FoundLemmas
+mod JoinLemmas
 mod BlockLemmas
 mod LeftLemmas
+mod FeedLemmas
