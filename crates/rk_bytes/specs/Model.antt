@@ -1,6 +1,7 @@
 pub mod BestEfforts
 pub mod BlockEntries
 pub mod Checksums
+pub mod Descent
 pub mod DiskImages
 pub mod Drill
 pub mod Examples

@@ -66,6 +66,7 @@ pub trait Disk {
         ensures part { IfOk result (λ n. IfSome (contents_told (told self.old)) (λ files.
             let part = part_of_file at (length buf.old) (unwrap_or (map.get files name.now) []) in
             (n ≡ length part) × (buf.new ≡ part ++ drop n buf.old))) }
+        ensures short { IfOk result (λ _. IfSome (contents_told (told self.old)) (λ files. IfSome (map.get files name.now) (λ bytes. length bytes < 2 ^ 64))) }
         ensures memory { IsErrOf result DiskErr.Memory → buf.new ≡ buf.old }
         ensures left { IsLeft (told self.old) (told self.new) }
         ensures faults { Counts (disk_failed result) (faults self.old) (faults self.new) };

@@ -1,10 +1,10 @@
-ghost use Rattle.std.specs.Prelude.{◌≡◌, ◌↔◌, ◌^◌, ◌<◌, ◌≤◌, ◌++◌, [], length, drop, Some, IfOk, IfSome, OnOk, OnErr, IsErrOf, IsTrue, unwrap_or, option_map};
+ghost use Rattle.std.specs.Prelude.{◌≡◌, ◌↔◌, ◌^◌, ◌<◌, ◌≤◌, ◌++◌, ◌||◌, true, [], ◌∷◌, length, drop, Some, IfOk, IfSome, OnOk, OnErr, IsErrOf, IsTrue, unwrap_or, option_map};
 ghost use Rattle.std.specs.Option.{option_copied};
 ghost use Rattle.std.specs.FinMap as map;
 ghost use Rattle.rk_bytes.specs.Model.DiskImages.{told_at_rest, part_of_file, Counts};
 ghost use Rattle.rk_disk.specs.Faults.{disk_failed};
-ghost use Rattle.rk_disk.specs.CallPlan.{fails_next, with_failing, faults_of};
-ghost use Rattle.rk_disk.specs.InMemory.{new_disk, after_reading};
+ghost use Rattle.rk_disk.specs.CallPlan.{fails_next, with_failing};
+ghost use Rattle.rk_disk.specs.InMemory.{new_disk, refuses, after_reading, after_read};
 
 use crate::files::Files;
 use crate::plan::Plan;
@@ -16,7 +16,11 @@ use std::marker::Model;
 /// A disk in memory, which tells its contents. The calls that are set to fail do, and no others.
 #[derive(Debug, Drop)]
 pub struct MemDisk {
+    alloc: Global,
+    /// Beside each file, how many bytes were read of it.
     files: Files,
+    /// Names, and from which offset on their reads are to fail.
+    refused: Vec<(Text, u64)>,
     plan: Plan,
 }
 
@@ -27,7 +31,7 @@ impl Model for MemDisk {
 
     ghost coded = { coded_disk };
 
-    ghost view = { λ d. record { files = d.files; plan = d.plan } };
+    ghost view = { λ d. record { files = d.files.contents; bytes_read = d.files.numbers; refused = d.refused.items; plan = d.plan } };
 }
 
 impl MemDisk {
@@ -36,28 +40,40 @@ impl MemDisk {
         ensures { IfOk result (λ disk. disk ≡ new_disk) }
     {
         Ok(MemDisk {
+            alloc,
             files: Files::new(alloc),
+            refused: Vec::new(alloc),
             plan: Plan::new(alloc),
         })
     }
 
-    /// Makes the file, or replaces it. This is no call of the disk.
+    /// Makes the file, or replaces it. This is no call of the disk, and how many bytes were read of
+    /// that name stays.
     pub fn put_file(&mut self, name: &str, bytes: &[u8]) -> Result<(), Memory>
-        ensures ok { OnOk result (self.new ≡ record self.old { files = map.insert self.old.files name.now bytes.now }) }
+        ensures ok { OnOk result (self.new ≡ record self.old { files = map.insert self.old.files name.now bytes.now; bytes_read = map.insert self.old.bytes_read name.now (unwrap_or (map.get self.old.bytes_read name.now) 0) }) }
         ensures err { OnErr result (self.new ≡ self.old) }
     {
-        self.files.put(name, bytes)
+        let bytes_read = self.bytes_read(name);
+        self.files.put(name, bytes, bytes_read)
     }
 
     /// Makes the call with this number, counted from 1 over the calls of `Disk`, answer `Failed`
-    /// and change nothing. The number of a call that was made already, or that is set already,
-    /// changes nothing.
+    /// and change nothing. The number of a call that was made already is of no effect.
     pub fn fail_at(&mut self, call: u64) -> Result<(), Memory>
         ensures ok { OnOk result (self.new ≡ record self.old { plan = with_failing call self.old.plan }) }
         ensures err { OnErr result (self.new ≡ self.old) }
-        ensures faults { faults_of self.new.plan ≡ faults_of self.old.plan }
     {
         self.plan.fail_at(call)
+    }
+
+    /// Makes each `read` of that name at or past `at` answer `Failed` and change nothing.
+    pub fn fail_from(&mut self, name: &str, at: u64) -> Result<(), Memory>
+        ensures ok { OnOk result (self.new ≡ record self.old { refused = self.old.refused ++ (name.now, at) ∷ [] }) }
+        ensures err { OnErr result (self.new ≡ self.old) }
+    {
+        let name = Text::copy_of(self.alloc, name)?;
+        self.refused.push((name, at))?;
+        Ok(())
     }
 
     /// How many calls of `Disk` were made. It stands still at the last value of a `u64`.
@@ -67,6 +83,14 @@ impl MemDisk {
         self.plan.calls()
     }
 
+    /// The sum of the numbers that `read` has answered with `Ok` for that name. It stands still at
+    /// the last value of a `u64`.
+    pub fn bytes_read(&self, name: &str) -> u64
+        ensures { result ≡ unwrap_or (map.get self.now.bytes_read name.now) 0 }
+    {
+        self.files.number(name).unwrap_or(0)
+    }
+
     /// The bytes of a file, or `None` where there is no file of that name. This is no call of the
     /// disk.
     pub fn file(&self, name: &str) -> Option<&[u8]>
@@ -74,21 +98,38 @@ impl MemDisk {
     {
         self.files.get(name)
     }
+
+    // Whether the next call, a read of that name at that offset, is set to fail.
+    fn fails_read(&self, name: &str, at: u64) -> bool
+        ensures { result ≡ (fails_next self.now.plan || refuses name.now at self.now.refused) }
+    {
+        self.plan.fails_next() || refuses(&self.refused, name, at)
+    }
+}
+
+fn refuses(refused: &[(Text, u64)], name: &str, at: u64) -> bool
+    ensures { result ≡ refuses name.now at refused.now }
+{
+    refused
+        .iter()
+        .any(|(refused, from)| refused.as_str() == name && *from <= at)
 }
 
 impl Disk for MemDisk {
     ghost told = { λ d. Some (told_at_rest d.files) };
 
-    ghost faults = { λ d. faults_of d.plan };
+    ghost faults = { λ d. d.plan.failed };
 
     /// `Memory` where there is none for the names.
     fn names(&mut self, alloc: Global) -> Result<Seq<Text>, DiskErr>
         ensures names { IfOk result (λ names. names ≡ map.keys self.old.files) }
         ensures exactly { IsErrOf result DiskErr.Failed ↔ IsTrue (fails_next self.old.plan) }
-        ensures counted { self.new ≡ after_reading self.old }
-        ensures faults { Counts (disk_failed result) (faults_of self.old.plan) (faults_of self.new.plan) }
+        ensures counted { self.new ≡ after_reading (disk_failed result) self.old }
+        ensures faults { Counts (disk_failed result) self.old.plan.failed self.new.plan.failed }
     {
-        if self.plan.count_call() {
+        let fails = self.plan.fails_next();
+        self.plan.count_call(fails);
+        if fails {
             return Err(DiskErr::Failed);
         }
         let names = self.files.names(alloc)?;
@@ -101,10 +142,12 @@ impl Disk for MemDisk {
         ensures short { IfOk result (λ _. IfSome (map.get self.old.files name.now) (λ bytes. length bytes < 2 ^ 64)) }
         ensures exactly { IsErrOf result DiskErr.Failed ↔ IsTrue (fails_next self.old.plan) }
         ensures memory { ¬ IsErrOf result DiskErr.Memory }
-        ensures counted { self.new ≡ after_reading self.old }
-        ensures faults { Counts (disk_failed result) (faults_of self.old.plan) (faults_of self.new.plan) }
+        ensures counted { self.new ≡ after_reading (disk_failed result) self.old }
+        ensures faults { Counts (disk_failed result) self.old.plan.failed self.new.plan.failed }
     {
-        if self.plan.count_call() {
+        let fails = self.plan.fails_next();
+        self.plan.count_call(fails);
+        if fails {
             return Err(DiskErr::Failed);
         }
         Ok(self.files.size(name))
@@ -116,15 +159,22 @@ impl Disk for MemDisk {
         ensures part { IfOk result (λ n.
             let part = part_of_file at (length buf.old) (unwrap_or (map.get self.old.files name.now) []) in
             (n ≡ length part) × (buf.new ≡ part ++ drop n buf.old)) }
+        ensures short { IfOk result (λ _. IfSome (map.get self.old.files name.now) (λ bytes. length bytes < 2 ^ 64)) }
         ensures failed { OnErr result (buf.new ≡ buf.old) }
-        ensures exactly { IsErrOf result DiskErr.Failed ↔ IsTrue (fails_next self.old.plan) }
+        ensures exactly { IsErrOf result DiskErr.Failed ↔ IsTrue (fails_next self.old.plan || refuses name.now at self.old.refused) }
         ensures memory { ¬ IsErrOf result DiskErr.Memory }
-        ensures counted { self.new ≡ after_reading self.old }
-        ensures faults { Counts (disk_failed result) (faults_of self.old.plan) (faults_of self.new.plan) }
+        ensures counted { IfOk result (λ n. self.new ≡ after_read name.now n self.old) }
+        ensures refused { OnErr result (self.new ≡ after_reading true self.old) }
+        ensures faults { Counts (disk_failed result) self.old.plan.failed self.new.plan.failed }
     {
-        if self.plan.count_call() {
+        let fails = self.fails_read(name, at);
+        self.plan.count_call(fails);
+        if fails {
             return Err(DiskErr::Failed);
         }
-        Ok(self.files.read(name, at, buf))
+        let count = self.files.read(name, at, buf);
+        let sum = self.bytes_read(name).saturating_add(count as u64);
+        self.files.set_number(name, sum);
+        Ok(count)
     }
 }

@@ -1,7 +1,7 @@
 ghost use Rattle.std.specs.Prelude.{◌≡◌, ◌↔◌, ◌++◌, OnOk, OnErr, IsOk, IsErrOf, IsTrue, Some};
 ghost use Rattle.rk_bytes.specs.Model.DiskImages.{Counts};
 ghost use Rattle.rk_disk.specs.Faults.{sink_failed};
-ghost use Rattle.rk_disk.specs.CallPlan.{fails_next, after_call, with_failing, faults_of};
+ghost use Rattle.rk_disk.specs.CallPlan.{fails_next, after_call, with_failing};
 ghost use Rattle.rk_disk.specs.InMemory.{new_sink};
 
 use crate::plan::Plan;
@@ -40,11 +40,10 @@ impl MemSink {
     }
 
     /// Makes the write with this number, counted from 1, answer `Failed` and take nothing. The
-    /// number of a write that was made already, or that is set already, changes nothing.
+    /// number of a write that was made already is of no effect.
     pub fn fail_at(&mut self, call: u64) -> Result<(), Memory>
         ensures ok { OnOk result (self.new ≡ record self.old { plan = with_failing call self.old.plan }) }
         ensures err { OnErr result (self.new ≡ self.old) }
-        ensures faults { faults_of self.new.plan ≡ faults_of self.old.plan }
     {
         self.plan.fail_at(call)
     }
@@ -60,17 +59,19 @@ impl MemSink {
 impl Sink for MemSink {
     ghost taken = { λ s. Some s.taken };
 
-    ghost faults = { λ s. faults_of s.plan };
+    ghost faults = { λ s. s.plan.failed };
 
     /// `Memory` where there is none for the bytes.
     fn write(&mut self, bytes: &[u8]) -> Result<(), SinkErr>
         ensures ok { OnOk result (self.new.taken ≡ self.old.taken ++ bytes.now) }
         ensures err { OnErr result (self.new.taken ≡ self.old.taken) }
         ensures exactly { IsErrOf result SinkErr.Failed ↔ IsTrue (fails_next self.old.plan) }
-        ensures counted { self.new.plan ≡ after_call self.old.plan }
-        ensures faults { Counts (sink_failed result) (faults_of self.old.plan) (faults_of self.new.plan) }
+        ensures counted { self.new.plan ≡ after_call (sink_failed result) self.old.plan }
+        ensures faults { Counts (sink_failed result) self.old.plan.failed self.new.plan.failed }
     {
-        if self.plan.count_call() {
+        let fails = self.plan.fails_next();
+        self.plan.count_call(fails);
+        if fails {
             return Err(SinkErr::Failed);
         }
         self.taken.append(bytes)?;

@@ -1,3 +1,5 @@
+ghost use Rattle.std.specs.Prelude.{None};
+
 use super::*;
 use rk_bytes::{Seq, Text};
 use std::alloc::Global;
@@ -115,6 +117,74 @@ fn a_file_is_read_in_pieces(rt: HostRuntime) -> Result<(), Fail> {
 }
 
 #[test]
+fn a_size_is_not_believed(rt: HostRuntime) -> Result<(), Fail> {
+    let alloc = rt.alloc();
+    let mut disk = LyingDisk::new(alloc);
+    for (size, bytes, read) in [
+        (1 << 62, b"".as_slice(), b"".as_slice()),
+        (u64::MAX, b"abc", b"abc"),
+        (2, b"abc", b"ab"),
+    ] {
+        disk.say("f", size, bytes)?;
+        assert_eq!(rt; size_of_file(&mut disk, "f"), Ok(Some(size)));
+        let file = read_file(alloc, &mut disk, "f")?;
+        assert_eq!(rt;
+            file.as_ref().map(|file| file.as_slice()),
+            Some(read),
+            "{size}"
+        );
+    }
+    assert_eq!(rt; names_of(alloc, &mut disk)?.as_slice().len(), 1);
+    assert_eq!(rt; read_file(alloc, &mut disk, "absent")?.is_none(), true);
+    Ok(())
+}
+
+// A disk whose reads give one byte at most.
+#[derive(Drop)]
+struct Slow {
+    disk: MemDisk,
+}
+
+impl Disk for Slow {
+    ghost told = { λ _. None };
+
+    ghost faults = { λ slow. slow.disk.plan.failed };
+
+    fn names(&mut self, alloc: Global) -> Result<Seq<Text>, DiskErr> {
+        self.disk.names(alloc)
+    }
+
+    fn size(&mut self, name: &str) -> Result<Option<u64>, DiskErr> {
+        self.disk.size(name)
+    }
+
+    fn read(&mut self, name: &str, at: u64, buf: &mut [u8]) -> Result<usize, DiskErr> {
+        match buf.first_mut() {
+            Some(byte) => self.disk.read(name, at, std::slice::from_mut(byte)),
+            None => Ok(0),
+        }
+    }
+}
+
+#[test]
+fn a_piece_goes_on_after_a_short_read(rt: HostRuntime) -> Result<(), Fail> {
+    let mut slow = Slow {
+        disk: MemDisk::new(rt.alloc())?,
+    };
+    slow.disk.put_file("f", b"abcdef")?;
+    for (at, count, filled) in [(1, 4, b"bcde"), (4, 2, b"ef--"), (u64::MAX, 0, b"----")] {
+        let mut buf = [b'-'; 4];
+        assert_eq!(rt;
+            read_piece(&mut slow, "f", at, &mut buf),
+            Ok(count),
+            "at {at}"
+        );
+        assert_eq!(rt; buf, *filled, "at {at}");
+    }
+    Ok(())
+}
+
+#[test]
 fn a_disk_fails_where_it_is_set_to(rt: HostRuntime) -> Result<(), Fail> {
     let alloc = rt.alloc();
     let mut disk = MemDisk::new(alloc)?;
@@ -140,6 +210,34 @@ fn a_disk_fails_where_it_is_set_to(rt: HostRuntime) -> Result<(), Fail> {
             "call {call}"
         );
         assert_eq!(rt; disk.calls(), call);
+    }
+    Ok(())
+}
+
+#[test]
+fn reads_fail_from_an_offset_on_and_others_are_counted(rt: HostRuntime) -> Result<(), Fail> {
+    let mut disk = MemDisk::new(rt.alloc())?;
+    disk.put_file("f", b"abcdef")?;
+    disk.put_file("g", b"xy")?;
+    disk.fail_from("f", 4)?;
+    let mut buf = [0; 4];
+    for (name, at, read) in [
+        ("f", 0, Ok(4)),
+        ("f", 3, Ok(3)),
+        ("f", 4, Err(DiskErr::Failed)),
+        ("f", u64::MAX, Err(DiskErr::Failed)),
+        ("g", 4, Ok(0)),
+        ("g", 0, Ok(2)),
+    ] {
+        assert_eq!(rt;
+            read_at(&mut disk, name, at, &mut buf),
+            read,
+            "{name} at {at}"
+        );
+    }
+    disk.put_file("f", b"new")?;
+    for (name, sum) in [("f", 7), ("g", 2), ("absent", 0)] {
+        assert_eq!(rt; disk.bytes_read(name), sum, "{name}");
     }
     Ok(())
 }

@@ -4,7 +4,7 @@ use Rattle.std.specs.Prelude.{nat_eq, nat_le}
 use Rattle.std.specs.Option.{option_eq}
 use Rattle.std.proofs.Math.Bool.{and-false}
 use Rattle.std.proofs.Math.Seq.{take-append_seam, drop-append_seam}
-use Rattle.std.proofs.lemmas.Bool.{eqb-true, eq-eqb, leb-true, leb-false, le-leb, lt-leb, false≢true}
+use Rattle.std.proofs.lemmas.Bool.{eqb-true, eq-eqb, leb-true, leb-false, le-leb, lt-leb, false≢true, and_parts, false_from_ne_true}
 use Rattle.std.proofs.lemmas.List.{length-append, length-take, length-drop, take-append-drop, take_all}
 use Rattle.rk_bytes.specs.Model.LogItems.{Item}
 use Rattle.rk_bytes.specs.Model.VersionEdit.{Field, group_in}
@@ -18,15 +18,7 @@ states None n e = absurd (false≢true e)
 states (Some k) n e = ap Some (eqb-true k n e)
 
 states_not : (told : Option ℕ) (n : ℕ) → (told ≡ Some n → ⊥) → option_eq nat_eq told (Some n) ≡ false
-states_not told n other = by (option_eq nat_eq told (Some n)) refl
-  where
-    by : (test : Bool) → option_eq nat_eq told (Some n) ≡ test → test ≡ false
-    by true e = absurd (other (states told n e))
-    by false e = refl
-
-both_true : (a b : Bool) → (a && b) ≡ true → (a ≡ true) × (b ≡ true)
-both_true true b e = (refl, e)
-both_true false b e = absurd (false≢true e)
+states_not told n other = false_from_ne_true (option_eq nat_eq told (Some n)) (λ e. other (states told n e))
 
 -- the first edit that doesn't state what is left
 record Break (n m : ℕ) (edits : List (List Field)) : Type 0 where
@@ -159,19 +151,19 @@ parted_is ended (suc most) edits units why (whole_group {members = one ∷ membe
     let taken : take (suc n) (one ∷ (members ++ rest)) ≡ one ∷ members = ap (λ n. take (suc n) (one ∷ (members ++ rest))) n_is ∙ take-append_seam (one ∷ members) rest in
     let dropped : drop n (members ++ rest) ≡ rest = ap (λ n. drop n (members ++ rest)) n_is ∙ drop-append_seam members rest in
     ap (parted_units ended (suc most)) whole
-    ∙ stated_group ended most n one (members ++ rest) (one ∷ members) true false (states _ n (both_true _ _ falling).0) taken falling (lt-leb (length (one ∷ members)) n (omega arith))
+    ∙ stated_group ended most n one (members ++ rest) (one ∷ members) true false (states _ n (and_parts _ _ falling).0) taken falling (lt-leb (length (one ∷ members)) n (omega arith))
     ∙ ap (λ rest. with_unit (group_unit (one ∷ members)) (parted_units ended most rest)) dropped
     ∙ ap (with_unit (group_unit (one ∷ members))) (parted_is ended most rest more why next (omega (arith, ap length whole, length-append (one ∷ members) rest)))
 parted_is ended most [] units why (cut_group cut) few = absurd (omega (arith, cut.begun))
 parted_is ended zero (one ∷ edits) units why (cut_group cut) few = absurd (omega arith)
 parted_is ended (suc most) (one ∷ edits) units why (cut_group {n = n} cut) few =
-    stated_group ended most n one edits (one ∷ edits) true true (states _ n (both_true _ _ cut.falling).0) (take_all (suc n) (one ∷ edits) (omega (arith, cut.fewer))) cut.falling (le-leb (length (one ∷ edits)) n cut.fewer)
+    stated_group ended most n one edits (one ∷ edits) true true (states _ n (and_parts _ _ cut.falling).0) (take_all (suc n) (one ∷ edits) (omega (arith, cut.fewer))) cut.falling (le-leb (length (one ∷ edits)) n cut.fewer)
 parted_is ended most edits units why (broken {members = []} edit rest whole cut other) few = absurd (omega (arith, cut.begun))
 parted_is ended zero edits units why (broken {members = one ∷ members} edit rest whole cut other) few = absurd (omega (arith, ap length whole))
 parted_is ended (suc most) edits units why (broken {n = n} {members = one ∷ members} edit rest whole cut other) few =
     ap (parted_units ended (suc most)) whole
     ∙ stated_group ended most n one (members ++ edit ∷ rest) (take (suc n) (one ∷ (members ++ edit ∷ rest))) false (nat_le (length (take (suc n) (one ∷ (members ++ edit ∷ rest)))) n)
-    (states _ n (both_true _ _ cut.falling).0) refl (falls-broken n (suc n) (one ∷ members) edit rest (omega (arith, cut.fewer)) other) refl
+    (states _ n (and_parts _ _ cut.falling).0) refl (falls-broken n (suc n) (one ∷ members) edit rest (omega (arith, cut.fewer)) other) refl
 
 pub IsUnits-units_of_items : (items : List Item) → IsUnits items (units_of_items items)
 IsUnits-units_of_items items =

@@ -8,18 +8,13 @@ use Rattle.std.specs.Cmp.Lexicographic.{slice_cmp, nat_list_cmp_total}
 use Rattle.std.specs.FinMap.{IsAntisymmetric, nat_cmp-IsAntisymmetric, slice_cmp-IsAntisymmetric}
 use Rattle.rk_bytes.specs.Model.Numbers.{AreBytes}
 use Rattle.rk_bytes.specs.Model.InternalKey.{user_key, packed, key_cmp}
-use Rattle.rk_bytes.specs.Model.Records.{Slot, slot_cmp}
+use Rattle.rk_bytes.specs.Model.Records.{slot_cmp}
+pub use Rattle.rk_bytes.specs.Model.Records.{slot_cmp-total}
 use Rattle.rk_laws.proofs.FixedNumbers.{little_endian-only_equal}
 use Rattle.rk_laws.proofs.ReadingLemmas.{bytes_after}
 
 pub key_cmp-total : IsTotalOrder key_cmp
 key_cmp-total = then_total (on_total user_key nat_list_cmp_total) (back_total (on_total packed nat_cmp_total))
-
-pub slot_cmp-total : IsTotalOrder slot_cmp
-unfolding slot_cmp
-slot_cmp-total =
-    then_total (on_total (λ (p : Slot). p.family) nat_cmp_total) (then_total (on_total (λ (p : Slot). p.user) nat_list_cmp_total)
-    (then_total (on_total (λ (p : Slot). p.packed) (back_total nat_cmp_total)) (on_total (λ (p : Slot). p.end) nat_list_cmp_total)))
 
 both_equal : (r s : Ordering) → ordering_then r s ≡ Equal → (r ≡ Equal) × (s ≡ Equal)
 both_equal Less s e = cc

@@ -23,12 +23,12 @@ unfolding log_marks
 EndsOnce-log_marks number bytes = EndsOnce-up_to_end _ _
 
 -- the marks after one that is no end
-later : (mark : Mark) (marks : List Mark) → EndsOnce (mark ∷ marks) → is_end mark ≡ false → EndsOnce marks
+pub later : (mark : Mark) (marks : List Mark) → EndsOnce (mark ∷ marks) → is_end mark ≡ false → EndsOnce marks
 later mark [] once other = absurd (false≢true (sym other ∙ once))
 later mark (next ∷ marks) once other = once.1
 
 -- there are none after one that is
-no_later : (mark : Mark) (marks : List Mark) → EndsOnce (mark ∷ marks) → is_end mark ≡ true → marks ≡ []
+pub no_later : (mark : Mark) (marks : List Mark) → EndsOnce (mark ∷ marks) → is_end mark ≡ true → marks ≡ []
 no_later mark [] once ends = refl
 no_later mark (next ∷ marks) once ends = absurd (false≢true (sym once.0 ∙ ends))
 

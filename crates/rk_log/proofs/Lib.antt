@@ -1,4 +1,6 @@
-mod Registers
-mod Tables
+mod FoundLemmas
+mod JoinLemmas
 mod BlockLemmas
 mod LeftLemmas
+mod FeedLemmas
+mod WriteLemmas

@@ -1,25 +1,23 @@
--- What the tests at the front of a block's rest show of its marks.
-use Rattle.std.specs.Prelude.{◌≡◌, ℕ, ◌+◌, ◌≤◌, Bool, true, List, [], ◌∷◌, length, drop}
-use Rattle.rk_bytes.specs.declared.model.log.EndKind.{EndKind}
-use Rattle.rk_bytes.specs.Model.LogMarks.{Mark, full, fault, is_end, block_marks}
-use Rattle.rk_bytes.specs.Model.LogItems.{end, alone}
+-- What stands at a place of a block, as the definition of a log's marks has it.
+use Rattle.std.specs.Prelude.{ℕ}
+use Rattle.rk_bytes.specs.Model.LogMarks.{full, first, middle, last, fault, cut, stale, unsupported, nothing, whole_rest, fragment}
+use Rattle.rk_bytes.specs.Model.LogMarks as definition
+use Rattle.rk_log.specs.declared.fragment.Mark.{Mark}
+use Rattle.rk_log.specs.declared.fragment.Mark.TheVariants.{Full, First, Middle, Last, Fault, Cut, Stale, Unsupported}
 use Rattle.rk_log.specs.declared.fragment.Found.{Found}
-use Rattle.rk_log.specs.declared.fragment.Found.TheVariants.{Nothing, End, Gap, Record}
+use Rattle.rk_log.specs.declared.fragment.Found.TheVariants.{Nothing, WholeRest, Fragment}
 
--- the only mark from the place on is an end of this kind there
-pub record IsEndMark (is_full : Bool) (bytes : List ℕ) (kind : EndKind) (place : ℕ) : Type 0 where
-  pub mark : Mark
-  pub alone_there : block_marks is_full place 0 bytes ≡ mark ∷ []
-  pub ends : is_end mark ≡ true
-  pub item : alone mark ≡ end kind place
+abbrev pub mark_at : ℕ → Mark → definition.Mark
+mark_at place (Full payload) = full payload.now place
+mark_at place (First payload) = first payload.now place
+mark_at place (Middle payload) = middle payload.now place
+mark_at place (Last payload) = last payload.now place
+mark_at place (Fault why) = fault why place
+mark_at place Cut = cut place
+mark_at place Stale = stale place
+mark_at place (Unsupported kind) = unsupported kind place
 
--- the mark stands first, and the others behind so many bytes
-pub record IsFirstMark (is_full : Bool) (bytes : List ℕ) (mark : ℕ → Mark) (len : ℕ) : Type 0 where
-  pub within : len ≤ length bytes
-  pub marks : (place : ℕ) → block_marks is_full place 0 bytes ≡ mark place ∷ block_marks is_full (place + len) 0 (drop len bytes)
-
-abbrev pub Shows : Bool → List ℕ → Found → Type 0
-Shows is_full bytes Nothing = (place : ℕ) → block_marks is_full place 0 bytes ≡ []
-Shows is_full bytes (End kind) = (place : ℕ) → IsEndMark is_full bytes kind place
-Shows is_full bytes (Gap why len) = IsFirstMark is_full bytes (fault why) len
-Shows is_full bytes (Record payload len) = IsFirstMark is_full bytes (full payload.now) len
+abbrev pub found_at : ℕ → Found → definition.Found
+found_at place Nothing = nothing
+found_at place (WholeRest mark) = whole_rest (mark_at place mark)
+found_at place (Fragment mark len) = fragment (mark_at place mark) len

@@ -1,5 +1,5 @@
--- What contracts see of an item, and how the items of a log are given out.
-use Rattle.std.specs.Prelude.{◌≡◌, ℕ, List, [], ◌∷◌}
+-- What contracts see of an item.
+use Rattle.std.specs.Prelude.{ℕ, Bool, true, false, List}
 use Rattle.rk_bytes.specs.Model.LogItems.{Item as Told, rec, gap, end}
 use Rattle.rk_log.specs.declared.item.Piece.{Piece}
 use Rattle.rk_log.specs.declared.item.Piece.TheVariants.{Whole, Joined}
@@ -15,7 +15,7 @@ item_of (Rec piece place) = rec (piece_bytes piece) place
 item_of (Gap why place) = gap why place
 item_of (End kind place) = end kind place
 
--- The item is the first of those that were left, and the others are left now. The end stays.
-abbrev pub Gives : List Told → Told → List Told → Type 0
-Gives old (end kind place) new = (old ≡ end kind place ∷ []) × (new ≡ old)
-Gives old item new = old ≡ item ∷ new
+abbrev pub is_end : Told → Bool
+is_end (rec payload place) = false
+is_end (gap why place) = false
+is_end (end kind place) = true

@@ -1,105 +1,129 @@
-ghost use Rattle.std.specs.Prelude.{◌≡◌, ◌<◌, ◌≤◌, ◌+◌, ◌∷◌, [], ◌↔◌, IsTrue, length, ℕ, drop, take};
-ghost use Rattle.rk_bytes.specs.Model.LogMarks.{has_right_sum, fragment_len, is_unread, is_unsupported};
-ghost use Rattle.rk_log.specs.Fragments.{Shows};
+//! The tests that a log's reader makes at a place of a block, in their order.
+ghost use Rattle.std.specs.Prelude.{◌≡◌, ℕ, ◌≤◌, length};
+ghost use Rattle.rk_bytes.specs.Model.LogMarks.{LogFile, fragment_len, fragment_mark, unless_recycled, fragment_found, found};
+ghost use Rattle.rk_log.specs.Fragments.{mark_at, found_at};
 
-use crate::sum;
-use rk_bytes::model::{EndKind, GapWhy};
+use crate::header::{self, HEADER_LEN};
+use rk_bytes::model::GapWhy;
 
-/// The length of a header, in bytes: the masked checksum (4), the payload's length (2) and the type.
-const HEADER_LEN: usize = 7;
-
-/// The type of a header that stands for nothing, if its length is 0 too.
-const ZERO: u8 = 0;
-
-/// The type of a record that isn't split.
-const FULL: u8 = 1;
-
-/// What stands at the front of the rest of a block.
-#[derive(Drop)]
-pub(crate) enum Found<'a> {
-    /// Nothing up to the block's end: padding, or a zero header.
-    Nothing,
-    /// The end of all reading, of this kind.
-    End(EndKind),
-    /// So many bytes that are left out, and why.
-    Gap(GapWhy, usize),
-    /// A whole record's payload, and the length of header and payload together.
-    Record(&'a [u8], usize),
+/// What stands at a place of a log.
+#[derive(Clone, Copy)]
+pub(crate) enum Mark<'b> {
+    /// A record's payload.
+    Full(&'b [u8]),
+    /// The first part of a split record's payload.
+    First(&'b [u8]),
+    /// A further part of it.
+    Middle(&'b [u8]),
+    /// The last part of it.
+    Last(&'b [u8]),
+    /// Bytes that are left out.
+    Fault(GapWhy),
+    /// The file's end cuts a fragment off.
+    Cut,
+    /// The file's earlier life begins.
+    Stale,
+    /// A fragment of a type that isn't supported.
+    Unsupported(u8),
 }
 
-/// Makes the tests of the format, in their order, at the front of the rest of a block. `is_full` says
-/// whether the block has its full length: its bytes are left out where those of a shorter one, which
-/// the file's end cuts off, are torn.
-pub(crate) fn find(block: &[u8], is_full: bool) -> Found<'_>
-    ensures { Shows is_full block.now result }
-{
-    if block.is_empty() {
-        return Found::Nothing;
+impl Mark<'_> {
+    ghost use Rattle.rk_bytes.specs.Model.LogItems.{begins_record};
+
+    /// Whether the mark begins a record of its own.
+    pub(crate) fn begins_record(&self) -> bool
+        ensures { (place : ℕ) → result ≡ begins_record (mark_at place self.now) }
+    {
+        matches!(self, Mark::Full(_) | Mark::First(_))
     }
-    if block.len() < HEADER_LEN {
+}
+
+/// What stands at the front of the rest of a block.
+pub(crate) enum Found<'b> {
+    /// Nothing up to the block's end: padding, or a zero header.
+    Nothing,
+    /// A mark up to the block's end.
+    WholeRest(Mark<'b>),
+    /// A mark of so many bytes.
+    Fragment(Mark<'b>, usize),
+}
+
+/// Makes the tests at the front of the rest of a block. `is_full` says whether the block has its full
+/// length: its bytes are left out where those of a shorter one, which the file's end cuts off, are torn.
+pub(crate) fn find(number: u64, recycled: bool, is_full: bool, bytes: &[u8]) -> Found<'_>
+    ensures { (place : ℕ) → found (record { number = number; recycled = recycled }) is_full place bytes.now ≡ found_at place result }
+{
+    if bytes.len() < HEADER_LEN {
         return if is_full {
             Found::Nothing
         } else {
-            Found::End(EndKind::Torn)
+            Found::WholeRest(unless_recycled(recycled, Mark::Cut))
         };
     }
-    let kind = block[6];
-    if is_unread(kind) {
-        return Found::End(EndKind::Unsupported(kind));
-    }
-    let len = fragment_len(block);
-    if block.len() < len {
-        return if is_full {
-            Found::Gap(GapWhy::Length, block.len())
+    let len = header::fragment_len(bytes);
+    if bytes.len() < len {
+        let mark = if is_full {
+            Mark::Fault(GapWhy::Length)
         } else {
-            Found::End(EndKind::Torn)
+            Mark::Cut
         };
+        return Found::WholeRest(unless_recycled(recycled, mark));
     }
-    if kind == ZERO && len == HEADER_LEN {
+    find_fragment(number, recycled, bytes, len)
+}
+
+/// Makes the tests of a fragment of this length, which doesn't pass the block's end.
+fn find_fragment(number: u64, recycled: bool, bytes: &[u8], len: usize) -> Found<'_>
+    requires header { HEADER_LEN ≤ length bytes.now }
+    requires len { len ≡ fragment_len bytes.now }
+    requires within { len ≤ length bytes.now }
+    ensures { (place : ℕ) → fragment_found (record { number = number; recycled = recycled }) place bytes.now ≡ found_at place result }
+{
+    if header::is_of_another_life(number, recycled, bytes) {
+        return Found::WholeRest(Mark::Stale);
+    }
+    if header::is_zero_header(bytes) {
         return Found::Nothing;
     }
-    if !has_right_sum(block, len) {
-        return Found::Gap(GapWhy::Checksum, block.len());
+    if !header::has_right_sum(bytes, len) {
+        return Found::WholeRest(unless_recycled(recycled, Mark::Fault(GapWhy::Checksum)));
     }
-    if is_unsupported(kind) {
-        return Found::End(EndKind::Unsupported(kind));
+    let kind = bytes[6];
+    if header::is_unsupported(kind) {
+        return Found::WholeRest(Mark::Unsupported(kind));
     }
-    if kind == FULL {
-        Found::Record(&block[HEADER_LEN..len], len)
+    Found::Fragment(fragment_mark(recycled, bytes, len), len)
+}
+
+/// The mark of a fragment with the right checksum, of a supported type and of this length.
+fn fragment_mark(recycled: bool, bytes: &[u8], len: usize) -> Mark<'_>
+    requires header { HEADER_LEN ≤ length bytes.now }
+    requires len { len ≡ fragment_len bytes.now }
+    requires within { len ≤ length bytes.now }
+    ensures { (number place : ℕ) → fragment_mark (record { number = number; recycled = recycled }) place bytes.now ≡ mark_at place result }
+{
+    let kind = bytes[6];
+    if header::is_recyclable(kind) && !recycled {
+        return Mark::Fault(GapWhy::Mixed);
+    }
+    let payload = &bytes[header::header_len(kind)..len];
+    let legacy_kind = if header::is_recyclable(kind) {
+        kind - 4
     } else {
-        Found::Gap(GapWhy::UnknownType, len)
+        kind
+    };
+    match legacy_kind {
+        1 => Mark::Full(payload),
+        2 => Mark::First(payload),
+        3 => Mark::Middle(payload),
+        4 => Mark::Last(payload),
+        _ => unless_recycled(recycled, Mark::Fault(GapWhy::UnknownType)),
     }
 }
 
-/// The length of the fragment whose header stands first: that of the header and of its payload.
-fn fragment_len(block: &[u8]) -> usize
-    requires { HEADER_LEN ≤ length block.now }
-    ensures { result ≡ fragment_len block.now }
+/// The mark, or that the file's earlier life begins here, where the file is recycled.
+fn unless_recycled(recycled: bool, mark: Mark<'_>) -> Mark<'_>
+    ensures { (number place : ℕ) → mark_at place result ≡ unless_recycled (record { number = number; recycled = recycled }) (mark_at place mark.entry) place }
 {
-    HEADER_LEN + usize::from(u16::from_le_bytes([block[4], block[5]]))
-}
-
-/// Whether the header's checksum is that of the type and the payload. `len` is the fragment's length.
-fn has_right_sum(block: &[u8], len: usize) -> bool
-    requires len { len ≡ fragment_len block.now }
-    requires within { len ≤ length block.now }
-    ensures { result ≡ has_right_sum block.now }
-{
-    let stored = u32::from_le_bytes([block[0], block[1], block[2], block[3]]);
-    stored == sum::mask(sum::crc32c(&block[6..len]))
-}
-
-/// A split record (2 to 4) or a recyclable header (5 to 8 and 11), which aren't read yet.
-fn is_unread(kind: u8) -> bool
-    ensures { result ≡ is_unread kind }
-{
-    matches!(kind, 2..=8 | 11)
-}
-
-/// Compression (9), the sizes of user timestamps (10), and the types with the top bit (128 to 255), which
-/// this project refuses.
-fn is_unsupported(kind: u8) -> bool
-    ensures { result ≡ is_unsupported kind }
-{
-    matches!(kind, 9 | 10 | 128..)
+    if recycled { Mark::Stale } else { mark }
 }

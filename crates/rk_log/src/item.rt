@@ -7,9 +7,9 @@ use rk_bytes::model::{EndKind, GapWhy};
 /// The payload of a record.
 #[derive(Debug, Drop)]
 pub enum Piece<'a> {
-    /// It stands in the file in one piece, which is lent.
+    /// It stands in one piece, which is lent.
     Whole(&'a [u8]),
-    /// It was split over blocks, and is joined in memory of its own.
+    /// It was split, and is joined in memory of its own.
     Joined(Bytes),
 }
 
@@ -34,4 +34,13 @@ pub enum Item<'a> {
     Gap(GapWhy, u64),
     /// Reading ends here.
     End(EndKind, u64),
+}
+
+/// What a feed answers to a block of a log.
+#[derive(Debug, Drop)]
+pub enum FeedItem<'b> {
+    /// The next item. The same block is to be handed in again.
+    Item(Item<'b>),
+    /// The block ends no further item: the next block is to be handed in.
+    More,
 }

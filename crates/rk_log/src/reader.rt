@@ -1,49 +1,71 @@
-ghost use Rattle.std.specs.Prelude.{◌≡◌, IsOk, IfOk};
-ghost use Rattle.rk_bytes.specs.Model.LogItems.{log_items};
-ghost use Rattle.rk_log.specs.Items.{item_of, Gives};
+ghost use Rattle.std.specs.Prelude.{◌≡◌};
+ghost use Rattle.rk_log.specs.Left.{log_left};
+ghost use Rattle.rk_log.specs.Steps.{Reads};
 
-use crate::Item;
-use crate::rest::Rest;
+use crate::block::cut_block;
+use crate::{FeedItem, Item, LogFeed};
 use rk_bytes::Memory;
 use std::alloc::Global;
 use std::marker::Model;
 
-/// Reads the bytes of a log's file. Contracts see it as the list of the items that are left, of which
-/// the last is the end.
+/// Reads the bytes of a log's file. Contracts see it as what is left: the items, of which the last is the
+/// end, and of each whether it was split.
 #[derive(Debug, Drop)]
 pub struct LogReader<'a> {
-    rest: Rest<'a>,
+    number: u64,
+    /// The bytes from the block on that is read.
+    rest: &'a [u8],
+    /// Made at the first call of `next`.
+    feed: Option<LogFeed>,
 }
 
 impl<'a> Model for LogReader<'a> {
-    ghost use Rattle.std.specs.Prelude.{List};
-    ghost use Rattle.rk_bytes.specs.Model.LogItems.{Item as Told};
+    ghost use Rattle.std.specs.Prelude.{length};
+    ghost use Rattle.rk_log.specs.Left.{Left};
 
-    ghost Value = { List Told };
+    ghost Value = { Left };
 
-    ghost use Rattle.rk_log.specs.Left.{items_left};
+    ghost use Rattle.rk_log.specs.Walk.{walk_left, WalkFits};
 
-    ghost view = { λ a. items_left a.rest };
+    ghost view = { λ a. walk_left a.feed a.number a.rest.now };
+
+    ghost invariant = { λ a. WalkFits a.feed (length a.rest.now) };
 }
 
 impl<'a> LogReader<'a> {
-    /// Before the first item of the file of the log with this number. Takes no memory. The number isn't
-    /// looked at yet, since only recyclable headers repeat it.
+    /// Before the first item of the file of the log with this number. Takes no memory.
     pub fn new(bytes: &'a [u8], number: u64) -> LogReader<'a>
-        ensures { result ≡ log_items number bytes.now }
+        ensures { result ≡ log_left number bytes.now }
     {
-        let _ = number;
         LogReader {
-            rest: Rest::new(bytes),
+            number,
+            rest: bytes,
+            feed: None,
         }
     }
 
-    /// The next item, and after the end that end again. `Memory` doesn't come yet, since no split record
-    /// is read so far, which would have to be joined.
-    pub fn next(&mut self, _alloc: Global) -> Result<Item<'a>, Memory>
-        ensures given { IfOk result (λ item. Gives self.old (item_of item) self.new) }
-        ensures succeeds { IsOk result }
+    /// The next item, and after the end that end again. `Memory` comes only where the parts of a split
+    /// record are joined, and changes nothing.
+    pub fn next(&mut self, alloc: Global) -> Result<Item<'a>, Memory>
+        ensures { Reads self.old result self.new }
     {
-        Ok(self.rest.next_item())
+        let mut feed = match self.feed.take() {
+            Some(feed) => feed,
+            None => LogFeed::new(alloc, self.number),
+        };
+        loop {
+            let (block, later) = cut_block(self.rest);
+            match feed.next(block, later.is_empty()) {
+                Ok(FeedItem::Item(item)) => {
+                    self.feed = Some(feed);
+                    return Ok(item);
+                }
+                Ok(FeedItem::More) => self.rest = later,
+                Err(memory) => {
+                    self.feed = Some(feed);
+                    return Err(memory);
+                }
+            }
+        }
     }
 }

@@ -1,9 +1,10 @@
 -- Best-efforts opening: how far the files that are whole let each family come (the idea is that of
 -- `best_efforts_recovery` in db/version_edit_handler.cc). When a file is whole, the points of families, what a
 -- group of edits asks of them, which points are the best and which manifest counts are this project's own rules.
-use Rattle.std.specs.Prelude.{◌≡◌, ℕ, zero, suc, ◌-◌, ◌*◌, ◌<◌, ◌≤◌, Bool, true, false, not, ◌&&◌, ◌||◌, ◌⊎◌, List, [], ◌∷◌, ◌++◌, length, map, flat_map, filter_map, filter, max, nat_lt, nat_le, nat_eq, ◌==◌, if◌then◌else◌, Option, Some, None, ok_or, is_ok, Result, Ok, Err, codes, refl}
-use Rattle.std.specs.List.{AllByRecursion, list_any, list_all, reduce}
+use Rattle.std.specs.Prelude.{◌≡◌, ℕ, zero, suc, ◌-◌, ◌*◌, ◌<◌, ◌≤◌, Bool, true, false, not, ◌&&◌, ◌||◌, ◌⊎◌, List, [], ◌∷◌, ◌++◌, length, replicate, map, take, zip, flat_map, bytes_eq, filter_map, filter, max, nat_lt, nat_le, nat_eq, ◌==◌, if◌then◌else◌, Option, Some, None, unwrap_or, ok_or, is_ok, Result, Ok, Err, codes, refl}
+use Rattle.std.specs.List.{AllByRecursion, list_any, list_all, last_or, reduce}
 use Rattle.std.specs.FinMap.{get, entries}
+use Rattle.std.specs.Fmt.{digits}
 use Rattle.rk_bytes.specs.declared.model.name.FileName.{FileName}
 use Rattle.rk_bytes.specs.declared.model.name.FileName.TheVariants.{Manifest as manifest_file}
 use Rattle.rk_bytes.specs.declared.model.key.Kind.TheVariants.{Value}
@@ -14,13 +15,19 @@ use Rattle.rk_bytes.specs.declared.model.view.FamilyLine.{FamilyLine}
 use Rattle.rk_bytes.specs.declared.model.view.Point.{Point}
 use Rattle.rk_bytes.specs.declared.model.open.OpenErr.{OpenErr}
 use Rattle.rk_bytes.specs.declared.model.open.OpenErr.TheVariants.{UnsupportedTable, NoUsableManifest}
-use Rattle.rk_bytes.specs.Model.Numbers.{◌>>=◌}
+use Rattle.rk_bytes.specs.declared.model.table.TableWhat.TheVariants.{Version as newer_version}
+use Rattle.rk_bytes.specs.Model.Numbers.{◌>>=◌, in_turn}
+use Rattle.rk_bytes.specs.Model.Checksums.{pieces, crc_bit, crc_bits, crc_bytes, crc32c}
+use Rattle.rk_bytes.specs.Model.LogMarks.{fragment_found, found, marks_from, block_len, blocks_marks, log_marks}
+use Rattle.rk_bytes.specs.Model.TableFooter.{footer_of}
+use Rattle.rk_bytes.specs.Model.TableStatus.{table_status}
+use Rattle.rk_bytes.specs.Model.Records.{last_records}
 use Rattle.rk_bytes.specs.Model.DiskImages.{Directory}
-use Rattle.rk_bytes.specs.Model.FileNames.{manifest_name, name_of}
-use Rattle.rk_bytes.specs.Model.BlockEntries.{each}
+use Rattle.rk_bytes.specs.Model.FileNames.{manifest_name, table_name, name_of}
+use Rattle.rk_bytes.specs.Model.BlockEntries.{collected}
 use Rattle.rk_bytes.specs.Model.InternalKey.{internal_key}
-use Rattle.rk_bytes.specs.Model.VersionEdit.{Field, log_number, next_file, last_sequence, add_file, family, family_add, file_with, added_in}
-use Rattle.rk_bytes.specs.Model.Manifest.{ManifestUnit, file_meta, first_version, steps_in_order, edit_step, overlap, unit_step, version_after, version_at, complete, manifest_units, has_id}
+use Rattle.rk_bytes.specs.Model.VersionEdit.{Field, log_number, next_file, last_sequence, delete_file, add_file, family, family_add, family_drop, drops_family, file_with, added_in, edit_fields}
+use Rattle.rk_bytes.specs.Model.Manifest.{ManifestUnit, edits_of, parted_units, file_meta, has_number, first_version, steps_in_order, edit_step, overlap, unit_step, version_after, version_at, complete, manifest_units, has_id}
 use Rattle.rk_bytes.specs.Model.Opening.{Best, Files, Listed, TableFile, in_order, table_file, state_with}
 
 -- the families that are live after the first so many units, and none where one of these is refused
@@ -35,13 +42,32 @@ last_families units = families_at units (length units)
 abbrev pub files_at : List ManifestUnit → ℕ → ℕ → List FileMeta
 files_at units id point = flat_map (λ live. live.files) (filter (has_id id) (families_at units point))
 
+-- the files that an edit adds, each with whether it is looked at: not where the edit drops its family
+abbrev pub added_by : List Field → List (FileMeta × Bool)
+added_by edit = map (λ new. (file_meta new, not (list_any drops_family edit))) (filter_map added_in edit)
+
+-- the files that units add, in order, each with whether it is looked at
+abbrev pub added_files : List ManifestUnit → List (FileMeta × Bool)
+added_files units = flat_map (λ unit. flat_map added_by unit.edits) units
+
 -- the files that units add, in order
 abbrev pub listed : List ManifestUnit → List FileMeta
-listed units = flat_map (λ unit. flat_map (λ edit. map file_meta (filter_map added_in edit)) unit.edits) units
+listed units = map (λ added. added.0) (added_files units)
 
--- A test of files, at each point of a family: every file that the family has there passes.
+-- Every file that the family has at the point passes the test.
 abbrev pub all_pass : (FileMeta → Bool) → List ManifestUnit → ℕ → ℕ → Bool
 all_pass is_whole units id point = list_all is_whole (files_at units id point)
+
+-- Instead of a test there may be an answer for each file that units add. The answer for a file in a version is that
+-- of the last one added with its number and looked at.
+abbrev pub answer_for : List ((FileMeta × Bool) × Bool) → ℕ → Bool
+answer_for answers number = unwrap_or (last_or None (map (λ a. a.1) (filter (λ a. a.0.1 && has_number number a.0.0) answers))) false
+
+-- The answer for every file that the family has at the point is true. Answers that are those of a test say what
+-- the test says (law `answers_of_a_test`).
+abbrev pub answers_pass : List Bool → List ManifestUnit → ℕ → ℕ → Bool
+answers_pass answers units id point =
+    let first = zip (added_files (take point units)) answers in list_all (λ file. answer_for first file.number) (files_at units id point)
 
 -- the places of the units that are groups, of units of which the first is at this place
 abbrev pub group_places : ℕ → List ManifestUnit → List ℕ
@@ -121,10 +147,11 @@ can_be_used (Ok table) = true
 can_be_used (Err (UnsupportedTable n what)) = true
 can_be_used (Err _) = false
 
--- the file is whole, of files under these names and of those of a directory
+-- the file is whole, among files under their names
 abbrev pub is_whole_in : Files → FileMeta → Bool
 is_whole_in files file = can_be_used (table_file files (record { family = 0; file = file }))
 
+-- the file of a directory is whole
 abbrev pub is_whole : Directory → FileMeta → Bool
 is_whole d file = is_whole_in (get d) file
 
@@ -145,32 +172,35 @@ usable_units files number = elim (files (manifest_name number)) [ Some bytes ↦
 abbrev pub are_complete : List ManifestUnit → Bool
 are_complete units = is_ok (version_at units (length units) >>= complete)
 
--- the numbers of a directory's manifests
+-- the number of a manifest's name
 abbrev pub number_of_manifest : FileName → Option ℕ
 number_of_manifest (manifest_file number) = Some number
 number_of_manifest _ = None
 
+-- the numbers of a directory's manifests
 abbrev pub manifest_numbers : Directory → List ℕ
 manifest_numbers d = filter_map (λ (file : List ℕ × List ℕ). number_of_manifest (name_of file.0)) (entries d)
 
--- the tables of the families at their points, in rising number
+-- the tables of a family at its point
 abbrev pub point_tables : List ManifestUnit → Point → List Listed
 point_tables units point = map (λ file. record { family = point.family; file = file }) (files_at units point.family point.at)
 
+-- the tables of the families at their points, in rising number
 abbrev pub tables_at : List ManifestUnit → List Point → List Listed
 tables_at units points = in_order (λ table. table.file.number) (flat_map (point_tables units) points)
 
--- The line of a live family: its name and log number after all units, and how many files it has at its point.
+-- how many files the family with this id has at its point
 abbrev pub files_of : List ManifestUnit → List Point → ℕ → ℕ
 files_of units points id = length (flat_map (point_tables units) (filter (λ point. point.family == id) points))
 
+-- the line of a live family: its name and log number after all units, and how many files it has at its point
 abbrev pub best_line : List ManifestUnit → List Point → FamilyState → FamilyLine
 best_line units points live = record { id = live.id; name = live.name; log = live.log; files = files_of units points live.id }
 
 -- what the tables at the points hold, or the lowest of them that isn't supported
 unfoldable pub best_with : Files → ℕ → List ManifestUnit → List Point → Result Best OpenErr
 best_with files number units points = do
-  tables ← each (table_file files) (tables_at units points)
+  tables ← collected (table_file files) (tables_at units points)
   Ok (record {
     state = state_with (map (best_line units points) (last_families units)) tables [];
     manifest = number;
@@ -190,49 +220,113 @@ best_files files numbers = do
 abbrev pub best_directory : Directory → Result Best OpenErr
 best_directory d = best_files (get d) (manifest_numbers d)
 
--- a field that adds a file of this number at level 0
-added : ℕ → Field
-added number = add_file (file_with 0 number 9 (internal_key (codes "a") 1 Value) (internal_key (codes "b") 1 Value))
+-- a field that adds a file of this number and size at level 0
+added : ℕ → ℕ → Field
+unfolding internal_key
+added number size = add_file (file_with 0 number size (internal_key (codes "a") 1 Value) (internal_key (codes "b") 1 Value))
 
--- the units of a new database, of one edit and of a group
+-- the unit of a new database
 new_database : ManifestUnit
 new_database = record { edits = (log_number 3 ∷ next_file 4 ∷ last_sequence 0 ∷ []) ∷ []; is_group = false }
 
+-- a unit of one edit, and one of a group
 one_edit : List Field → ManifestUnit
 one_edit edit = record { edits = edit ∷ []; is_group = false }
 
 one_group : List (List Field) → ManifestUnit
 one_group edits = record { edits = edits; is_group = true }
 
--- family 1, added with these fields
-family_one : List Field → List Field
-family_one fields = family 1 ∷ family_add (codes "one") ∷ fields
+-- the edit that adds family 1
+family_one : List Field
+family_one = family 1 ∷ family_add (codes "one") ∷ []
 
 -- the best points where the files with these numbers are whole
 best_where : List ℕ → List ManifestUnit → List Point
-unfolding lowered_until
+unfolding lowered_until steps_in_order edit_step overlap unit_step version_after
 best_where whole units = best_points units (all_pass (λ file. list_any (nat_eq file.number) whole) units)
 
 -- Table 6 is cut short and table 8 isn't there, so two units of four count.
-of_broken_files : best_where (4 ∷ []) (new_database ∷ one_edit (added 4 ∷ []) ∷ one_edit (added 6 ∷ []) ∷ one_edit (added 8 ∷ []) ∷ [])
+of_broken_files :
+    best_where (4 ∷ []) (new_database ∷ one_edit (added 4 9 ∷ []) ∷ one_edit (added 6 9 ∷ []) ∷ one_edit (added 8 9 ∷ []) ∷ [])
     ≡ record { family = 0; at = 2 } ∷ []
-unfolding best_where new_database one_edit added internal_key steps_in_order edit_step overlap unit_step version_after lowered_until
+unfolding best_where new_database one_edit added
 of_broken_files = refl
 
 -- The second group isn't applied to family 1 alone, whose file is whole.
 of_a_broken_group :
     best_where (4 ∷ 7 ∷ []) (
-    new_database ∷ one_group ((added 4 ∷ []) ∷ family_one [] ∷ []) ∷ one_group ((added 6 ∷ []) ∷ (family 1 ∷ added 7 ∷ []) ∷ []) ∷ [])
+    new_database ∷ one_group ((added 4 9 ∷ []) ∷ family_one ∷ []) ∷ one_group ((added 6 9 ∷ []) ∷ (family 1 ∷ added 7 9 ∷ []) ∷ []) ∷ [])
     ≡ record { family = 0; at = 2 } ∷ record { family = 1; at = 2 } ∷ []
-unfolding best_where new_database one_group family_one added internal_key steps_in_order edit_step overlap unit_step version_after lowered_until
+unfolding best_where new_database one_group family_one added
 of_a_broken_group = refl
 
 -- A group that is left out of one family holds the other one before it, though a later file of that is whole.
 of_a_group_before_a_file :
-    best_where (5 ∷ []) (one_edit (family_one []) ∷ one_group ((last_sequence 0 ∷ []) ∷ (family 1 ∷ added 9 ∷ []) ∷ []) ∷ one_edit (added 5 ∷ []) ∷ [])
+    best_where (5 ∷ []) (one_edit family_one ∷ one_group ([] ∷ (family 1 ∷ added 9 9 ∷ []) ∷ []) ∷ one_edit (added 5 9 ∷ []) ∷ [])
     ≡ record { family = 0; at = 1 } ∷ record { family = 1; at = 1 } ∷ []
-unfolding best_where one_edit one_group family_one added internal_key steps_in_order edit_step overlap unit_step version_after lowered_until
+unfolding best_where one_edit one_group family_one added
 of_a_group_before_a_file = refl
+
+-- A group ties no family that it adds, nor one that is dropped later.
+of_families_that_a_group_adds :
+    best_where (4 ∷ []) (one_group ((added 4 9 ∷ []) ∷ family_one ∷ (family 1 ∷ added 6 9 ∷ []) ∷ []) ∷ [])
+    ≡ record { family = 0; at = 1 } ∷ record { family = 1; at = 0 } ∷ []
+unfolding best_where one_group family_one added
+of_families_that_a_group_adds = refl
+
+-- File 7 is deleted and added again, and a third edit that adds it drops its family, so that its answer, the last, isn't
+-- looked at.
+of_answers :
+    map (λ point. answers_pass (false ∷ true ∷ false ∷ []) (
+    one_edit (added 7 9 ∷ []) ∷ one_edit (delete_file 0 7 ∷ added 7 9 ∷ []) ∷ one_edit family_one ∷ one_edit (family 1 ∷ family_drop ∷ added 7 9 ∷ []) ∷ []) 0 point) (
+    0 ∷ 1 ∷ 2 ∷ 4 ∷ [])
+    ≡ true ∷ false ∷ true ∷ true ∷ []
+unfolding one_edit family_one added steps_in_order edit_step overlap unit_step version_after
+of_answers = refl
+
+-- The units before a refused one count.
+of_a_refused_unit : usable (new_database ∷ one_edit (delete_file 0 9 ∷ []) ∷ new_database ∷ []) ≡ new_database ∷ []
+unfolding new_database one_edit steps_in_order edit_step overlap unit_step
+of_a_refused_unit = refl
+
+-- a table of 53 bytes with a format version that isn't supported
+newer_table : List ℕ
+newer_table = 1 ∷ replicate 40 0 ++ 6 ∷ 0 ∷ 0 ∷ 0 ∷ 0xF7 ∷ 0xCF ∷ 0xF4 ∷ 0x85 ∷ 0xB7 ∷ 0x41 ∷ 0xE2 ∷ 0x88 ∷ []
+
+-- a manifest of the first edit of a new database, in a log of one record
+first_manifest : List ℕ
+first_manifest =
+    0x91 ∷ 0x8D ∷ 0x74 ∷ 0x51 ∷ 34 ∷ 0 ∷ 1 ∷ 1 ∷ 26 ∷ codes "leveldb.BytewiseComparator" ++ 2 ∷ 3 ∷ 3 ∷ 4 ∷ 4 ∷ 0 ∷ []
+
+-- Table 5 is of a newer version, table 7 has 3 bytes, and of manifests there is 2.
+some_files : Files
+unfolding digits newer_table first_manifest
+some_files name =
+    if bytes_eq name (table_name 5) then Some newer_table
+    else (if bytes_eq name (table_name 7) then Some (1 ∷ 2 ∷ 3 ∷ [])
+    else (if bytes_eq name (manifest_name 2) then Some first_manifest else None))
+
+-- An unsupported table is whole, and one of another size, an absent one and a damaged one aren't.
+of_files : map (λ (file : ℕ × ℕ). is_whole_in some_files (file_meta (file_with 0 file.0 file.1 [] []))) ((5, 53) ∷ (5, 52) ∷ (6, 53) ∷ (7, 3) ∷ []) ≡ true ∷ false ∷ false ∷ false ∷ []
+unfolding some_files digits table_file table_status footer_of
+of_files = refl
+
+-- what some files are opened to
+of_an_unsupported_table : best_with some_files 2 (one_edit (added 5 53 ∷ []) ∷ []) (record { family = 0; at = 1 } ∷ []) ≡ Err (UnsupportedTable 5 (newer_version 6))
+unfolding best_with some_files digits one_edit added table_file table_status footer_of steps_in_order edit_step overlap unit_step version_after
+of_an_unsupported_table = refl
+
+-- Manifest 3 isn't there, and manifest 2 has all that it needs.
+of_a_manifest :
+    best_files some_files (2 ∷ 3 ∷ [])
+    ≡ Ok (record {
+      state = record { families = record { id = 0; name = codes "default"; log = 3; files = 0 } ∷ []; records = last_records []; tombs = [] };
+      manifest = 2;
+      units = 1;
+      points = record { family = 0; at = 1 } ∷ [];
+    })
+unfolding best_files best_with best_where some_files digits log_marks blocks_marks marks_from found fragment_found block_len pieces crc32c crc_bytes crc_bits crc_bit edits_of parted_units edit_fields in_turn
+of_a_manifest = refl
 
 of_no_manifest : best_files (λ name. None) [] ≡ Err NoUsableManifest
 unfolding best_files

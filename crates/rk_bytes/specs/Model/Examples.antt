@@ -1,6 +1,12 @@
+pub mod DataBlocks
+pub mod Directories
 pub mod Drill
+pub mod DrillLogs
 pub mod Opening
 pub mod Output
+pub mod OutputTables
+pub mod Properties
 pub mod Repair
 pub mod Salvage
+pub mod Tables
 pub mod Writers

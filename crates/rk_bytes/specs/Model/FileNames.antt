@@ -1,6 +1,12 @@
 -- The names of a database's files, and the text of CURRENT (file/filename.cc). Names below `lost/`, and that
 -- a name counts only as it is printed here, are this project's own rules.
 use Rattle.std.specs.Prelude.{◌≡◌, ℕ, zero, suc, ◌+◌, ◌-◌, ◌^◌, ◌<◌, ◌&&◌, List, [], ◌∷◌, ◌++◌, length, map, take, drop, replicate, position, nat_eq, nat_lt, ◌==◌, if◌then◌else◌, Option, Some, None, option_map, unwrap_or, ok_or, Result, Ok, Err, Contains, bytes_eq, codes, refl}
+use Rattle.std.proofs.Common.{sym, subst}
+use Rattle.std.proofs.Math.Arith.{lt-one}
+use Rattle.std.proofs.Math.Nat.{zero-lt-suc}
+use Rattle.std.proofs.lemmas.Bool.{false≢true}
+use Rattle.std.proofs.lemmas.Cmp.{nat_list_eq_equiv}
+use Rattle.std.proofs.lemmas.Map.Views.{list_any-from_Contains}
 use Rattle.std.specs.List.{starts_with}
 use Rattle.std.specs.Option.{option_or}
 use Rattle.std.specs.Fmt.{digits, decimal}
@@ -107,13 +113,9 @@ pub record IsFreeLostName (name : List ℕ) (taken : List (List ℕ)) (free : Li
   pub absent : ¬ (Contains taken free)
   pub before : (k : ℕ) → k < tried → Contains taken (lost_name name k)
 
-short_number : log_name 3 ≡ codes "000003.log"
+of_numbers : map log_name (3 ∷ 999999 ∷ 12345678 ∷ []) ≡ codes "000003.log" ∷ codes "999999.log" ∷ codes "12345678.log" ∷ []
 unfolding digits
-short_number = refl
-
-long_number : log_name 12345678 ≡ codes "12345678.log"
-unfolding digits
-long_number = refl
+of_numbers = refl
 
 of_a_table : name_of (codes "000012.sst") ≡ Table 12
 unfolding name_of digits
@@ -139,18 +141,30 @@ of_a_temporary_file : name_of (codes "1234567.dbtmp") ≡ Temp 1234567
 unfolding name_of digits
 of_a_temporary_file = refl
 
-of_no_newline : current_manifest (codes "MANIFEST-000002") ≡ Err NoNewline
-unfolding current_manifest digits
-of_no_newline = refl
-
-of_a_manifest : current_manifest (codes "MANIFEST-000002\n") ≡ Ok 2
-unfolding current_manifest digits
+of_a_manifest : map current_text (2 ∷ 1234567 ∷ []) ≡ codes "MANIFEST-000002\n" ∷ codes "MANIFEST-1234567\n" ∷ []
+unfolding digits
 of_a_manifest = refl
 
-of_a_second_line : current_manifest (codes "MANIFEST-000002\n\n") ≡ Err Trailing
+named_by_current : map current_manifest (codes "MANIFEST-000002\n" ∷ codes "MANIFEST-1234567\n" ∷ []) ≡ Ok 2 ∷ Ok 1234567 ∷ []
 unfolding current_manifest digits
-of_a_second_line = refl
+named_by_current = refl
 
-of_a_log's_name : current_manifest (codes "000002.log\n") ≡ Err NotManifest
+-- no newline, a second line, a log's name, and no name
+named_by_no_current : map current_manifest (codes "MANIFEST-000002" ∷ codes "MANIFEST-000002\n\n" ∷ codes "000002.log\n" ∷ codes "\n" ∷ [])
+    ≡ Err NoNewline ∷ Err Trailing ∷ Err NotManifest ∷ Err NotManifest ∷ []
 unfolding current_manifest digits
-of_a_log's_name = refl
+named_by_no_current = refl
+
+of_lost_names : map (lost_name (codes "000005.log")) (0 ∷ 1 ∷ 10 ∷ []) ≡ codes "lost/000005.log" ∷ codes "lost/000005.log.1" ∷ codes "lost/000005.log.10" ∷ []
+unfolding digits
+of_lost_names = refl
+
+-- The first name is taken, and the third.
+of_a_free_lost_name : IsFreeLostName (codes "000005.log") (codes "lost/000005.log" ∷ codes "lost/000005.log.2" ∷ []) (codes "lost/000005.log.1")
+unfolding digits
+of_a_free_lost_name = record {
+  tried = 1;
+  is = refl;
+  absent = λ there. false≢true (list_any-from_Contains nat_list_eq_equiv (codes "lost/000005.log.1") (codes "lost/000005.log" ∷ codes "lost/000005.log.2" ∷ []) there);
+  before = λ k below. subst (λ k. Contains (codes "lost/000005.log" ∷ codes "lost/000005.log.2" ∷ []) (lost_name (codes "000005.log") k)) (sym (lt-one below)) (0, zero-lt-suc 1, refl);
+}

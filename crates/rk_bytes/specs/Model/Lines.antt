@@ -1,6 +1,6 @@
 -- The lines that commands write, and how bytes, keys and refusals are shown in them. All of it is this
 -- project's own rule.
-use Rattle.std.specs.Prelude.{◌≡◌, ℕ, ◌/◌, ◌%◌, ◌==◌, nat_le, Bool, true, false, not, ◌&&◌, List, [], ◌∷◌, ◌++◌, length, map, flat_map, if◌then◌else◌, Option, Some, None, Result, Ok, Err, codes, decimal, refl}
+use Rattle.std.specs.Prelude.{◌≡◌, ℕ, ◌/◌, ◌%◌, ◌==◌, nat_le, Bool, true, false, not, ◌&&◌, List, [], ◌∷◌, ◌++◌, length, map, flat_map, if◌then◌else◌, Option, Some, None, Ok, Err, codes, decimal, refl}
 use Rattle.std.specs.Fmt.{digits}
 use Rattle.hex.specs.Hex.{encode_lower, encode_with}
 use Rattle.rk_bytes.specs.declared.model.log.GapWhy.{GapWhy}
@@ -49,16 +49,18 @@ use Rattle.rk_bytes.specs.declared.model.salvage.SurveyErr.{SurveyErr}
 use Rattle.rk_bytes.specs.declared.model.salvage.SurveyErr.TheVariants as survey_err
 use Rattle.rk_bytes.specs.declared.model.salvage.Moved.{Moved}
 use Rattle.rk_bytes.specs.declared.model.salvage.Report.{Report}
+use Rattle.rk_bytes.specs.Model.Numbers.{in_turn}
 use Rattle.rk_bytes.specs.Model.InternalKey.{kind_number, user_key, packed}
 use Rattle.rk_bytes.specs.Model.LogItems.{Item, rec, gap, end}
 use Rattle.rk_bytes.specs.Model.WriteBatch.{Part, change, log_bytes, noop, Batch, change_count, batch_of}
-use Rattle.rk_bytes.specs.Model.VersionEdit.{NewFile, Field, comparator, log_number, next_file, last_sequence, compact_cursor, delete_file, add_file, previous_log, least_log, family, family_add, family_drop, greatest_family, group, wal_add, wal_delete, ignored, edit_fields}
+use Rattle.rk_bytes.specs.Model.VersionEdit.{NewFile, Field, comparator, log_number, next_file, last_sequence, compact_cursor, delete_file, add_file, previous_log, least_log, family, family_add, family_drop, greatest_family, group, wal_add, wal_delete, ignored, after_customs, edit_fields}
 use Rattle.rk_bytes.specs.Model.TableStatus.{TableFault, damaged, unsupported}
 use Rattle.rk_bytes.specs.Model.KeyView.{Answer, found, absent, merge, Row}
 use Rattle.rk_bytes.specs.Model.Grammar.{mode_number}
 
 -- ---- lines and the bytes in them
 
+-- a line of this text
 abbrev pub line : List ℕ → List ℕ
 line text = text ++ 10 ∷ []
 
@@ -140,6 +142,7 @@ change_value hex Merge value = codes " => " ++ quoted hex value
 change_value hex RangeDeletion until = codes " .. " ++ quoted hex until
 change_value hex _ value = []
 
+-- a part of a batch
 abbrev pub part_line : Bool → Part → List ℕ
 part_line hex (change place r) = inner_line (change_word r.kind ++ then_number r.family ++ codes " " ++ key_at hex r.key r.sequence ++ change_value hex r.kind r.value)
 part_line hex (log_bytes place bytes) = inner_line (codes "log_bytes" ++ then_number (length bytes))
@@ -184,6 +187,7 @@ abbrev pub synced_words : Option ℕ → List ℕ
 synced_words None = []
 synced_words (Some synced) = codes " synced" ++ then_number synced
 
+-- a field of an edit
 abbrev pub field_words : Bool → Field → List ℕ
 field_words hex (comparator name) = codes "comparator " ++ quoted hex name
 field_words hex (log_number n) = codes "log_number" ++ then_number n
@@ -211,8 +215,8 @@ edit_lines hex bytes = elim (edit_fields bytes) [
 ]
 
 -- a family of the last version
-abbrev pub family_line : FamilyState → List ℕ
-family_line live = line (codes "family" ++ then_number live.id ++ codes " " ++ quoted false live.name ++ codes " log" ++ then_number live.log ++ codes " files" ++ then_number (length live.files))
+abbrev pub families_line : FamilyState → List ℕ
+families_line live = line (codes "family" ++ then_number live.id ++ codes " " ++ quoted false live.name ++ codes " log" ++ then_number live.log ++ codes " files" ++ then_number (length live.files))
 
 -- ---- what is shown of keys
 
@@ -227,10 +231,11 @@ answer_words hex (found value) = quoted hex value
 answer_words hex absent = codes "not found"
 answer_words hex (merge operands base) = codes "merge" ++ flat_map (λ value. codes " " ++ quoted hex value) operands ++ codes " base " ++ base_words hex base
 
--- a row of a scan, and the answer for one key
+-- a row of a scan
 abbrev pub row_line : Bool → Row → List ℕ
 row_line hex row = line (quoted hex row.key ++ codes " => " ++ answer_words hex row.answer)
 
+-- the answer for one key
 abbrev pub answer_line : Bool → Answer → List ℕ
 answer_line hex answer = line (answer_words hex answer)
 
@@ -252,13 +257,15 @@ ok_line families files records = line (codes "ok: families" ++ then_number famil
 abbrev pub count_words : ℕ → ℕ → List ℕ
 count_words records keys = codes "records" ++ then_number records ++ codes " keys" ++ then_number keys
 
--- what is said of a mode, and of best efforts, by the drill
+-- what a drill says of a mode
 abbrev pub mode_line : Mode → List ℕ → List ℕ
 mode_line mode words = line (codes "mode" ++ then_number (mode_number mode) ++ codes ": " ++ words)
 
-abbrev pub best_line : List ℕ → List ℕ
-best_line words = line (codes "best-efforts: " ++ words)
+-- what it says of best efforts
+abbrev pub best_efforts_line : List ℕ → List ℕ
+best_efforts_line words = line (codes "best-efforts: " ++ words)
 
+-- the first line of a drill
 abbrev pub drill_line : ℕ → List ℕ
 drill_line n = line (codes "drill" ++ then_number n)
 
@@ -268,6 +275,7 @@ drill_line n = line (codes "drill" ++ then_number n)
 abbrev pub moved_line : Moved → List ℕ
 moved_line moved = line (codes "lost: " ++ moved.name ++ codes " " ++ moved.lost)
 
+-- the counts of a repair
 abbrev pub repaired_line : Report → List ℕ
 repaired_line report = line (codes "repaired: families" ++ then_number report.families ++ codes " tables" ++ then_number report.tables ++ codes " logs" ++ then_number report.logs
     ++ codes " added" ++ then_number report.added ++ codes " archived" ++ then_number report.archived ++ codes " records" ++ then_number report.records)
@@ -355,13 +363,15 @@ table_what_words table_what.External = codes "External"
 table_what_words table_what.HashIndex = codes "HashIndex"
 table_what_words (table_what.RecordKind kind) = codes "RecordKind" ++ then_number kind
 
--- a table that is damaged, or not supported
+-- a table that is damaged
 abbrev pub damaged_words : ℕ → TableWhy → ℕ → List ℕ
 damaged_words n why place = codes "DamagedTable" ++ then_number n ++ codes " " ++ table_why_word why ++ then_number place
 
+-- a table that isn't supported
 abbrev pub unsupported_words : ℕ → TableWhat → List ℕ
 unsupported_words n what = codes "UnsupportedTable" ++ then_number n ++ codes " " ++ table_what_words what
 
+-- the fault of a table
 abbrev pub table_fault_words : ℕ → TableFault → List ℕ
 table_fault_words n (damaged why place) = damaged_words n why place
 table_fault_words n (unsupported what) = unsupported_words n what
@@ -371,6 +381,7 @@ abbrev pub log_what_words : LogWhat → List ℕ
 log_what_words (log_what.RecordType kind) = codes "type" ++ then_number kind
 log_what_words (log_what.Tag tag) = codes "tag" ++ then_number tag
 
+-- a log in which something isn't supported
 abbrev pub unsupported_log_words : ℕ → LogWhat → List ℕ
 unsupported_log_words log what = codes "UnsupportedLog" ++ then_number log ++ codes " " ++ log_what_words what
 
@@ -414,31 +425,37 @@ survey_err_words (survey_err.FamilyTooLarge id) = codes "FamilyTooLarge" ++ then
 survey_err_words survey_err.DiskFault = codes "DiskFault"
 survey_err_words survey_err.Memory = codes "Memory"
 
--- what isn't there: a log, a table, a live family
+-- a log that isn't there
 abbrev pub no_log_words : ℕ → List ℕ
 no_log_words n = codes "NoLog" ++ then_number n
 
+-- a table that isn't there
 abbrev pub no_table_words : ℕ → List ℕ
 no_table_words n = codes "NoTable" ++ then_number n
 
+-- a family that no live one is
 abbrev pub no_family_words : List ℕ → List ℕ
 no_family_words name = codes "NoFamily " ++ quoted false name
 
--- the text of a refusal, and its line
+-- the text of a refusal
 abbrev pub refused_words : List ℕ → List ℕ
 refused_words why = codes "refused: " ++ why
 
+-- the line of a refusal
 abbrev pub refusal_line : List ℕ → List ℕ
 refusal_line why = line (refused_words why)
 
 -- ---- words that spell no command, and faults
 
+-- the line that answers words that spell no command
 abbrev pub usage_line : List ℕ
 usage_line = line (codes "usage: scan get families manifest_dump dump_wal check repair sst drill")
 
+-- the line that ends an output after a fault of the disk
 abbrev pub disk_fault_line : List ℕ
 disk_fault_line = line (codes "fault: disk")
 
+-- the line that ends an output after want of memory
 abbrev pub memory_fault_line : List ℕ
 memory_fault_line = line (codes "fault: memory")
 
@@ -458,3 +475,58 @@ in_hexadecimal = refl
 of_an_internal_key : key_text false (0x61 ∷ 0x22 ∷ 0x10 ∷ 0x01 ∷ 0 ∷ 0 ∷ 0 ∷ 0 ∷ 0 ∷ 1 ∷ []) ≡ codes "\"a\\x22\"@281474976710657:16"
 unfolding quoted encode_with digits
 of_an_internal_key = refl
+
+-- puts of `a`, `b` and `c` from sequence number 5 on, with the count that is stated
+puts_from_five : ℕ → List ℕ
+puts_from_five count =
+    (5 ∷ 0 ∷ 0 ∷ 0 ∷ 0 ∷ 0 ∷ 0 ∷ 0 ∷ count ∷ 0 ∷ 0 ∷ 0 ∷ []) ++ (1 ∷ 1 ∷ codes "a") ++ (1 ∷ codes "1") ++ (1 ∷ 1 ∷ codes "b") ++ (1 ∷ codes "2")
+    ++ (1 ∷ 1 ∷ codes "c") ++ (1 ∷ codes "3")
+
+-- batches of three puts that state their count right and wrong, and of a deletion in a family
+lines_of_batches : map (batch_lines false) (puts_from_five 3 ∷ puts_from_five 2 ∷ (1 ∷ 0 ∷ 0 ∷ 0 ∷ 0 ∷ 0 ∷ 0 ∷ 0 ∷ 1 ∷ 0 ∷ 0 ∷ 0 ∷ 4 ∷ 7 ∷ 1 ∷ codes "a") ∷ [])
+    ≡ map line (codes "  batch 5 3" ∷ codes "  put 0 \"a\"@5 => \"1\"" ∷ codes "  put 0 \"b\"@6 => \"2\"" ∷ codes "  put 0 \"c\"@7 => \"3\"" ∷ [])
+    ∷ map line (codes "  bad WrongCount 2 3" ∷ []) ∷ map line (codes "  batch 1 1" ∷ codes "  delete 7 \"a\"@1" ∷ []) ∷ []
+unfolding batch_lines batch_of in_turn puts_from_five quoted encode_with digits
+lines_of_batches = refl
+
+-- every other part of a batch
+lines_of_parts : map (part_line true) (change 12 (record { family = 3; key = codes "k"; sequence = 1; kind = Merge; value = codes "v" }) ∷ change 20 (record { family = 0; key = []; sequence = 2; kind = SingleDeletion; value = [] })
+    ∷ change 30 (record { family = 0; key = codes "a"; sequence = 3; kind = RangeDeletion; value = codes "b" }) ∷ log_bytes 40 (codes "xy") ∷ noop 50 ∷ [])
+    ≡ map line (codes "  merge 3 0x6b@1 => 0x76" ∷ codes "  single_delete 0 0x@2" ∷ codes "  range_delete 0 0x61@3 .. 0x62" ∷ codes "  log_bytes 2" ∷ codes "  noop" ∷ [])
+unfolding quoted encode_with digits
+lines_of_parts = refl
+
+-- `a` at sequence 1, as a put
+key_of_a : List ℕ
+key_of_a = 0x61 ∷ 1 ∷ 1 ∷ 0 ∷ 0 ∷ 0 ∷ 0 ∷ 0 ∷ 0 ∷ []
+
+-- an added file with its sequence numbers, a tag that is passed over, and one that isn't supported
+lines_of_edits : map (edit_lines false) (((0x67 ∷ 0 ∷ 4 ∷ 0xE8 ∷ 7 ∷ 9 ∷ []) ++ key_of_a ++ 9 ∷ key_of_a ++ 1 ∷ 1 ∷ 1 ∷ []) ∷ (0x81 ∷ 0x40 ∷ 3 ∷ codes "abc") ∷ (0x66 ∷ []) ∷ [])
+    ≡ map line (codes "  add_file 0 4 1000 \"a\"@1:1 \"a\"@1:1 seqs 1 1" ∷ []) ∷ map line (codes "  ignored 8193 3" ∷ []) ∷ map line (codes "  bad UnsupportedTag 102 0" ∷ []) ∷ []
+unfolding edit_lines edit_fields in_turn after_customs key_of_a quoted encode_with digits
+lines_of_edits = refl
+
+-- every other field
+lines_of_fields : map (field_words false) (comparator (codes "c") ∷ log_number 1 ∷ next_file 2 ∷ last_sequence 3 ∷ compact_cursor 4 key_of_a ∷ delete_file 5 6 ∷ previous_log 7 ∷ least_log 8 ∷ family 9
+    ∷ family_add (codes "f") ∷ family_drop ∷ greatest_family 10 ∷ group 11 ∷ wal_add 12 None ∷ wal_add 13 (Some 14) ∷ wal_delete 15 ∷ [])
+    ≡ codes "comparator \"c\"" ∷ codes "log_number 1" ∷ codes "next_file 2" ∷ codes "last_sequence 3" ∷ codes "compact_cursor 4 \"a\"@1:1" ∷ codes "delete_file 5 6" ∷ codes "previous_log 7" ∷ codes "least_log 8"
+    ∷ codes "family 9" ∷ codes "family_add \"f\"" ∷ codes "family_drop" ∷ codes "greatest_family 10" ∷ codes "group 11" ∷ codes "wal_add 12" ∷ codes "wal_add 13 synced 14" ∷ codes "wal_delete 15" ∷ []
+unfolding key_of_a quoted encode_with digits
+lines_of_fields = refl
+
+-- Wrappers aren't printed.
+lines_of_refusals : map open_err_words (open_err.BadCurrent current_fault.NoNewline ∷ open_err.Manifest (manifest_fault.Damaged 7 (manifest_why.Gap gap_why.Checksum)) ∷ open_err.Manifest (manifest_fault.Damaged 7 (manifest_why.Unsupported 9))
+    ∷ open_err.Manifest (manifest_fault.BadEdit 2 (edit_why.Read (edit_fault.BadField 103 5))) ∷ open_err.Manifest (manifest_fault.BadEdit 2 (edit_why.Apply (apply_fault.Overlap 1 3))) ∷ open_err.Manifest (manifest_fault.NoFields which.NextFile)
+    ∷ open_err.DamagedTable 4 table_why.BadMagic 65 ∷ open_err.UnsupportedTable 4 (table_what.Compressed 1) ∷ open_err.UnsupportedTable 4 table_what.HashIndex ∷ open_err.ShortLog 3 48 47
+    ∷ open_err.Wal (wal_err.Corrupt 3 0 (wal_why.Batch (batch_fault.WrongCount 2 3))) ∷ open_err.Wal (wal_err.Corrupt 5 76 wal_why.Torn) ∷ open_err.Wal (wal_err.UnsupportedLog 3 (log_what.RecordType 9)) ∷ open_err.Wal (wal_err.UnsupportedLog 3 (log_what.Tag 16)) ∷ [])
+    ≡ codes "BadCurrent NoNewline" ∷ codes "ManifestDamaged 7 Checksum" ∷ codes "ManifestDamaged 7 Unsupported 9" ∷ codes "BadEdit 2 BadField 103 5" ∷ codes "BadEdit 2 Overlap 1 3" ∷ codes "NoFields NextFile"
+    ∷ codes "DamagedTable 4 BadMagic 65" ∷ codes "UnsupportedTable 4 Compressed 1" ∷ codes "UnsupportedTable 4 HashIndex" ∷ codes "ShortLog 3 48 47"
+    ∷ codes "Corrupt 3 0 WrongCount 2 3" ∷ codes "Corrupt 5 76 Torn" ∷ codes "UnsupportedLog 3 type 9" ∷ codes "UnsupportedLog 3 tag 16" ∷ []
+unfolding digits
+lines_of_refusals = refl
+
+-- operands stand after the newest first, and a base may lack
+lines_of_answers : map (answer_line false) (found (codes "1") ∷ absent ∷ merge (codes "z" ∷ codes "y" ∷ []) (Some (codes "x")) ∷ merge ([] ∷ []) None ∷ [])
+    ≡ map line (codes "\"1\"" ∷ codes "not found" ∷ codes "merge \"z\" \"y\" base \"x\"" ∷ codes "merge \"\" base none" ∷ [])
+unfolding quoted encode_with
+lines_of_answers = refl

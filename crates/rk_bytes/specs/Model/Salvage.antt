@@ -1,24 +1,22 @@
 -- Salvage: the records that a directory's tables and logs still hold, whatever its manifests say
 -- (RocksDB's wiki, "RocksDB Repairer"; db/repair.cc). What is taken and in which order, and the refusals, are
 -- this project's own rules.
-use Rattle.std.specs.Prelude.{◌≡◌, ℕ, zero, suc, ◌+◌, ◌^◌, Bool, true, false, not, ◌&&◌, ◌||◌, List, [], ◌∷◌, ◌++◌, length, map, flat_map, filter, filter_map, reverse, fold, min, max, sum_by, replicate, take, drop, slice_get, nat_lt, nat_le, ◌==◌, if◌then◌else◌, Option, Some, None, option_map, unwrap_or, Result, Ok, Err, bytes_eq, codes, refl}
+use Rattle.std.specs.Prelude.{◌≡◌, ℕ, zero, suc, ◌+◌, ◌^◌, Bool, true, false, not, ◌&&◌, ◌||◌, List, [], ◌∷◌, ◌++◌, length, map, flat_map, filter, filter_map, fold, min, max, sum_by, replicate, slice_get, nat_lt, nat_le, ◌==◌, if◌then◌else◌, Option, Some, None, option_map, unwrap_or, is_some, Result, Ok, Err, bytes_eq, codes, refl}
 use Rattle.std.specs.List.{list_any, reduce, find as first_that}
 use Rattle.std.specs.Fmt.{digits}
-use Rattle.std.specs.Ordering.{nat_cmp}
-use Rattle.std.specs.Cmp.Lexicographic.{slice_cmp}
 use Rattle.std.specs.FinMap.{entries, values}
 use Rattle.std.specs.FinMap.Entries.{put, find}
 use Rattle.std.specs.Option.{option_map_or}
 use Rattle.rk_bytes.specs.declared.model.log.EndKind.TheVariants.{Clean, Torn, Unsupported}
-use Rattle.rk_bytes.specs.declared.model.key.Kind.TheVariants.{Deletion, Value, RangeDeletion}
+use Rattle.rk_bytes.specs.declared.model.key.Kind.TheVariants.{Value}
 use Rattle.rk_bytes.specs.declared.model.key.Record.{Record}
 use Rattle.rk_bytes.specs.declared.model.batch.BatchFault.{BatchFault}
 use Rattle.rk_bytes.specs.declared.model.batch.BatchFault.TheVariants.{UnsupportedTag}
 use Rattle.rk_bytes.specs.declared.model.block.RangeDel.{RangeDel}
 use Rattle.rk_bytes.specs.declared.model.block.IndexEntry.{IndexEntry}
 use Rattle.rk_bytes.specs.declared.model.table.Footer.{Footer}
-use Rattle.rk_bytes.specs.declared.model.table.TableWhat.{TableWhat}
-use Rattle.rk_bytes.specs.declared.model.table.TableWhat.TheVariants.{Comparator, External}
+use Rattle.rk_bytes.specs.declared.model.table.TableWhat.TheVariants.{Comparator}
+use Rattle.rk_bytes.specs.declared.model.table.TableWhy.TheVariants.{OutOfFile}
 use Rattle.rk_bytes.specs.declared.model.log.GapWhy.TheVariants.{Checksum}
 use Rattle.rk_bytes.specs.declared.model.wal.LogWhat.{LogWhat}
 use Rattle.rk_bytes.specs.declared.model.wal.LogWhat.TheVariants.{RecordType, Tag}
@@ -30,21 +28,21 @@ use Rattle.rk_bytes.specs.declared.model.salvage.FamilyName.{FamilyName}
 use Rattle.rk_bytes.specs.declared.model.salvage.Kept.{Kept}
 use Rattle.rk_bytes.specs.declared.model.salvage.Moved.{Moved}
 use Rattle.rk_bytes.specs.declared.model.salvage.Report.{Report}
-use Rattle.rk_bytes.specs.Model.Numbers.{◌>>=◌, in_turn}
+use Rattle.rk_bytes.specs.Model.Numbers.{in_turn}
 use Rattle.rk_bytes.specs.Model.Checksums.{pieces, crc_bit, crc_bits, crc_bytes, crc32c}
-use Rattle.rk_bytes.specs.Model.BlockEntries.{block_entries, entries_after, index_entries}
-use Rattle.rk_bytes.specs.Model.TableFooter.{footer_of, checked_block}
-use Rattle.rk_bytes.specs.Model.TableStatus.{TableFault, damaged, unsupported, BlockReader, reader_of, DataEntry, data_block, record_in, is_set, user_separators, family_of, family_name_of, is_range_deletion, TableHead, head_with, Good, table_with, table_status}
+use Rattle.rk_bytes.specs.Model.BlockEntries.{block_entries, entries_after}
+use Rattle.rk_bytes.specs.Model.TableFooter.{footer_of}
+use Rattle.rk_bytes.specs.Model.TableStatus.{TableFault, damaged, unsupported, BlockReader, reader_of, DataEntry, data_block, record_in, is_set, user_separators, family_of, family_name_of, is_range_deletion, TableHead, head_with, Good, table_status}
 use Rattle.rk_bytes.specs.Model.LogMarks.{log_marks, blocks_marks, block_len, marks_from, fragment_found, found}
 use Rattle.rk_bytes.specs.Model.DiskImages.{Directory}
 use Rattle.rk_bytes.specs.Model.FileNames.{name_of, log_name, table_name, lost_name}
 use Rattle.rk_bytes.specs.Model.LogItems.{Item, rec, gap, end, log_items}
 use Rattle.rk_bytes.specs.Model.WriteBatch.{Batch, changes, batch_of}
-use Rattle.rk_bytes.specs.Model.VersionEdit.{Field, added_in, edit_fields}
+use Rattle.rk_bytes.specs.Model.VersionEdit.{added_in, edit_fields}
 use Rattle.rk_bytes.specs.declared.model.view.Tomb.{Tomb}
 use Rattle.rk_bytes.specs.Model.KeyView.{State, tomb_of, is_covered}
 use Rattle.rk_bytes.specs.Model.Opening.{in_order, range_record}
-use Rattle.rk_bytes.specs.Model.Records.{Slot, slot_of, slot_cmp, end_of, RecordMap, last_records}
+use Rattle.rk_bytes.specs.Model.Records.{Slot, slot_of, slot_cmp, end_of, RecordMap, slotted, last_records}
 
 -- the value of an answer, or an empty list
 abbrev pub list_or_none : {A F : Type 0} → Result (List A) F → List A
@@ -74,8 +72,11 @@ part_of_head block_of head = record {
   records = map (record_in (family_of head.properties)) (readable_records block_of (is_set (user_separators head.properties)) None head.index);
 }
 
+-- the part of a table with this footer
 abbrev pub part_with : List ℕ → Footer → Option TablePart
-part_with table footer = elim (head_with (reader_of table footer) footer) [ Ok head ↦ Some (part_of_head (reader_of table footer) head) | Err why ↦ None ]
+part_with table footer =
+    let block_of = reader_of table footer in
+    elim (head_with block_of footer) [ Ok head ↦ Some (part_of_head block_of head) | Err why ↦ None ]
 
 -- The part of a table, which has none just where its footer, its metaindex, its properties, its range
 -- deletions or its index have a fault.
@@ -86,19 +87,22 @@ table_part table = elim (footer_of table) [ Ok footer ↦ part_with table footer
 abbrev pub Files : Type 0
 Files = List (List ℕ × List ℕ)
 
--- the number of a name of one kind
+-- the number of a table's name
 abbrev pub table_number : FileName → Option ℕ
 table_number (Table n) = Some n
 table_number _ = None
 
+-- the number of a log's name
 abbrev pub log_number : FileName → Option ℕ
 log_number (Log n) = Some n
 log_number _ = None
 
+-- the number of a manifest's name
 abbrev pub manifest_number : FileName → Option ℕ
 manifest_number (Manifest n) = Some n
 manifest_number _ = None
 
+-- the number of a temporary file's name
 abbrev pub temp_number : FileName → Option ℕ
 temp_number (Temp n) = Some n
 temp_number _ = None
@@ -111,6 +115,7 @@ number_of_name (Table n) = Some n
 number_of_name (Temp n) = Some n
 number_of_name _ = None
 
+-- the name stands below `lost/`
 abbrev pub is_lost : FileName → Bool
 is_lost Lost = true
 is_lost _ = false
@@ -123,6 +128,7 @@ with_number number_in file = option_map (λ n. (n, file.1)) (number_in (name_of 
 unfoldable pub numbered : (FileName → Option ℕ) → Files → List (ℕ × List ℕ)
 numbered number_in files = in_order (λ file. file.0) (filter_map (with_number number_in) files)
 
+-- the numbers of such files
 abbrev pub numbers : List (ℕ × List ℕ) → List ℕ
 numbers files = map (λ file. file.0) files
 
@@ -149,6 +155,7 @@ abbrev pub is_damaged : Result Good TableFault → Bool
 is_damaged (Err (damaged why place)) = true
 is_damaged _ = false
 
+-- the table of this number and these bytes, whose status is this
 abbrev pub found_table : ℕ × List ℕ → Result Good TableFault → TableFile
 found_table file status = record {
   number = file.0;
@@ -157,13 +164,19 @@ found_table file status = record {
   part = elim (is_damaged status) [ true ↦ table_part file.1 | false ↦ None ];
 }
 
--- the tables as they are found, in rising number
-abbrev pub tables_in : Files → List TableFile
-tables_in files = map (λ file. found_table file (table_status file.1)) (numbered table_number files)
+-- The files of a directory as they are found: all, the tables, and the logs with their items.
+pub record FoundFiles : Type 0 where
+  pub files : Files
+  pub tables : List TableFile
+  pub logs : List (ℕ × List Item)
 
--- the logs, each with its number and its items, in rising number
-abbrev pub logs_in : Files → List (ℕ × List Item)
-logs_in files = map (λ file. (file.0, log_items file.0 file.1)) (numbered log_number files)
+-- the files as they are found, tables and logs in rising number
+abbrev pub found_files : Files → FoundFiles
+found_files files = record {
+  files = files;
+  tables = map (λ file. found_table file (table_status file.1)) (numbered table_number files);
+  logs = map (λ file. (file.0, log_items file.0 file.1)) (numbered log_number files);
+}
 
 -- What a table gives: the id and the name of its family, and its records, range deletions among them.
 pub record TableRecords : Type 0 where
@@ -172,6 +185,7 @@ pub record TableRecords : Type 0 where
   pub name : List ℕ
   pub records : List Record
 
+-- what the good table with this number gives
 abbrev pub records_of_good : ℕ → Good → TableRecords
 records_of_good number good = record {
   number = number;
@@ -180,6 +194,7 @@ records_of_good number good = record {
   records = good.records ++ map (range_record good.table.family) good.table.ranges;
 }
 
+-- what the part of the damaged table with this number gives
 abbrev pub records_of_part : ℕ → TablePart → TableRecords
 records_of_part number part = record {
   number = number;
@@ -188,14 +203,15 @@ records_of_part number part = record {
   records = part.records ++ map (range_record part.family) part.ranges;
 }
 
--- what a good table gives
+-- what a table gives, if it is good
 abbrev pub given_by_good : TableFile → Option TableRecords
 given_by_good table = elim table.status [ Ok good ↦ Some (records_of_good table.number good) | Err why ↦ None ]
 
+-- the same, if there is a record
 abbrev pub if_some_record : TableRecords → Option TableRecords
 if_some_record table = elim table.records [ [] ↦ None | r ∷ records ↦ Some table ]
 
--- what a damaged table gives, if a record or a range deletion can be read
+-- what a table gives, if it is damaged and a record or a range deletion can be read
 abbrev pub given_by_damaged : TableFile → Option TableRecords
 given_by_damaged table = elim table.part [ Some part ↦ if_some_record (records_of_part table.number part) | None ↦ None ]
 
@@ -206,7 +222,8 @@ first_families = record { id = 0; name = codes "default" } ∷ []
 -- A table contradicts: its family's id is known under another name, or its name under another id.
 abbrev pub contradicts : List FamilyName → TableRecords → Bool
 contradicts known table =
-    list_any (λ family. family.id == table.family && not (bytes_eq family.name table.name) || not (family.id == table.family) && bytes_eq family.name table.name) known
+    list_any (λ family. family.id == table.family && not (bytes_eq family.name table.name)) known
+    || list_any (λ family. not (family.id == table.family) && bytes_eq family.name table.name) known
 
 -- the known families and a table's own, in rising id
 abbrev pub with_family_of : List FamilyName → TableRecords → List FamilyName
@@ -226,18 +243,16 @@ agreeing known (table ∷ tables) =
     elim (contradicts known table) [ true ↦ agreeing known tables | false ↦ table ∷ agreeing (with_family_of known table) tables ]
 
 -- the good tables that are kept
-abbrev pub kept_tables : List TableFile → List TableRecords
-kept_tables tables = agreeing first_families (filter_map given_by_good tables)
+abbrev pub kept_tables : FoundFiles → List TableRecords
+kept_tables found = agreeing first_families (filter_map given_by_good found.tables)
 
--- the damaged tables that are partly read, after the good ones
-abbrev pub partly_read : List TableFile → List TableRecords
-partly_read tables = agreeing (with_families_of first_families (kept_tables tables)) (filter_map given_by_damaged tables)
+-- the damaged tables that are partly read: they are taken after all good ones
+abbrev pub partly_read : FoundFiles → List TableRecords
+partly_read found = agreeing (with_families_of first_families (kept_tables found)) (filter_map given_by_damaged found.tables)
 
-abbrev pub known_families : List TableFile → List FamilyName
-known_families tables = with_families_of first_families (kept_tables tables ++ partly_read tables)
-
-abbrev pub all_records : List TableRecords → List Record
-all_records tables = flat_map (λ table. table.records) tables
+-- the families that are known once all tables are taken
+abbrev pub known_families : FoundFiles → List FamilyName
+known_families found = with_families_of first_families (kept_tables found ++ partly_read found)
 
 -- the records of a batch, which has none where it doesn't read
 abbrev pub changes_of : Result Batch BatchFault → List Record
@@ -249,6 +264,7 @@ abbrev pub item_records : Item → List Record
 item_records (rec payload place) = changes_of (batch_of payload)
 item_records _ = []
 
+-- the record's family is one of these
 abbrev pub is_known : List FamilyName → Record → Bool
 is_known families r = list_any (λ family. family.id == r.family) families
 
@@ -256,28 +272,33 @@ is_known families r = list_any (λ family. family.id == r.family) families
 abbrev pub log_records : List FamilyName → List (ℕ × List Item) → List Record
 log_records families logs = filter (is_known families) (flat_map (λ log. flat_map item_records log.1) logs)
 
--- The records of the kept tables alone, and all that are taken, each over those before it: of the tables that
--- are partly read, of the kept tables, of the logs.
-abbrev pub kept_records : List TableFile → List Record
-kept_records tables = all_records (kept_tables tables)
+-- the records of tables, in order
+abbrev pub all_records : List TableRecords → List Record
+all_records tables = flat_map (λ table. table.records) tables
 
-abbrev pub taken_records : List TableFile → List (ℕ × List Item) → List Record
-taken_records tables logs = all_records (partly_read tables) ++ (kept_records tables ++ log_records (known_families tables) logs)
+-- the records of the kept tables
+abbrev pub kept_records : FoundFiles → List Record
+kept_records found = all_records (kept_tables found)
 
--- Entries in the order of their places. Of two at one place the first counts.
+-- All records that are taken, each over those before it: of the tables that are partly read, of the kept tables, of
+-- the logs.
+abbrev pub taken_records : FoundFiles → List Record
+taken_records found = all_records (partly_read found) ++ (kept_records found ++ log_records (known_families found) found.logs)
+
+-- Entries in the order of their slots. Of two in one slot the first counts.
 unfoldable pub placed : List (Slot × Record) → List (Slot × Record)
 placed [] = []
 placed (entry ∷ entries) = put slot_cmp entry.0 entry.1 (placed entries)
 
--- The last record at each place in the list, in the order of the places: the entries of `last_records` (law
--- `records_in_order`).
+-- the entries of the map of a list's last records, in their order (law `records_in_order`)
 abbrev pub last_placed : List Record → List (Slot × Record)
-last_placed records = placed (map (λ r. (slot_of r, r)) (reverse records))
+last_placed records = placed (slotted records)
 
+-- the last record in each slot of a list, in the order of the slots
 abbrev pub last_in_order : List Record → List Record
 last_in_order records = map (λ entry. entry.1) (last_placed records)
 
--- one of the entries stands at the record's place and has its value
+-- one of the entries stands in the record's slot and has its value
 abbrev pub is_held : List (Slot × Record) → Record → Bool
 is_held held r = option_map_or (λ other. bytes_eq other.value r.value) (find slot_cmp (slot_of r) held) false
 
@@ -285,11 +306,12 @@ is_held held r = option_map_or (λ other. bytes_eq other.value r.value) (find sl
 abbrev pub not_held : List Record → List Record → List Record
 not_held held records = filter (λ r. not (is_held (last_placed held) r)) (last_in_order records)
 
--- The records that tables have to be added for, in the order of their places: those that the kept tables
+-- The records that tables have to be added for, in the order of their slots: those that the kept tables
 -- alone don't hold with the same value.
-abbrev pub remainder_of : List TableFile → List (ℕ × List Item) → List Record
-remainder_of tables logs = not_held (kept_records tables) (taken_records tables logs)
+abbrev pub remainder_of : FoundFiles → List Record
+remainder_of found = not_held (kept_records found) (taken_records found)
 
+-- what in a table isn't supported
 abbrev pub unsupported_in_table : TableFile → Option SurveyErr
 unsupported_in_table table = elim table.status [
   | Ok good ↦ None
@@ -297,10 +319,12 @@ unsupported_in_table table = elim table.status [
   | Err (unsupported what) ↦ Some (UnsupportedTable table.number what)
 ]
 
+-- the tag in a batch that isn't supported, if it is the batch's first fault
 abbrev pub unsupported_tag : Result Batch BatchFault → Option LogWhat
 unsupported_tag (Err (UnsupportedTag tag)) = Some (Tag tag)
 unsupported_tag _ = None
 
+-- what in a log's item isn't supported
 abbrev pub unsupported_in_item : Item → Option LogWhat
 unsupported_in_item (rec payload place) = unsupported_tag (batch_of payload)
 unsupported_in_item (gap why place) = None
@@ -312,9 +336,10 @@ abbrev pub unsupported_in_log : ℕ × List Item → Option SurveyErr
 unsupported_in_log log = option_map (UnsupportedLog log.0) (slice_get (filter_map unsupported_in_item log.1) 0)
 
 -- the lowest table that isn't supported, else the lowest log in which something isn't
-abbrev pub refused_file : List TableFile → List (ℕ × List Item) → Option SurveyErr
-refused_file tables logs = slice_get (filter_map unsupported_in_table tables ++ filter_map unsupported_in_log logs) 0
+abbrev pub refused_file : FoundFiles → Option SurveyErr
+refused_file found = slice_get (filter_map unsupported_in_table found.tables ++ filter_map unsupported_in_log found.logs) 0
 
+-- a family's records among these
 abbrev pub in_family : FamilyName → List Record → List Record
 in_family family records = filter (λ r. r.family == family.id) records
 
@@ -347,9 +372,11 @@ kept_of_good table good = let sequences = map (λ r. r.sequence) (records_of_goo
   greatest = fold max 0 sequences;
 }
 
+-- the table is one of these
 abbrev pub has_number : List TableRecords → TableFile → Bool
 has_number kept table = list_any (λ one. one.number == table.number) kept
 
+-- what is known of a table, if it is one of the kept ones
 abbrev pub kept_in : List TableRecords → TableFile → Option Kept
 kept_in kept table = elim table.status [ Ok good ↦ if has_number kept table then Some (kept_of_good table good) else None | Err why ↦ None ]
 
@@ -367,57 +394,56 @@ pub record Salvaged : Type 0 where
   pub records : RecordMap
   pub remainder : List Record
 
-abbrev pub salvaged : Files → List TableFile → List (ℕ × List Item) → Salvaged
-salvaged files tables logs = record {
-  greatest = greatest_number files;
-  families = known_families tables;
-  kept = filter_map (kept_in (kept_tables tables)) tables;
-  archived = map (λ table. table.number) (filter (λ table. not (has_number (kept_tables tables) table)) tables);
-  logs = map (λ log. log.0) logs;
-  temps = numbers (numbered temp_number files);
-  lost = filter (λ name. is_lost (name_of name)) (map (λ file. file.0) files);
-  records = last_records (taken_records tables logs);
-  remainder = remainder_of tables logs;
+-- what a salvage of files that are found is
+abbrev pub salvaged : FoundFiles → Salvaged
+salvaged found = record {
+  greatest = greatest_number found.files;
+  families = known_families found;
+  kept = filter_map (kept_in (kept_tables found)) found.tables;
+  archived = map (λ table. table.number) (filter (λ table. not (has_number (kept_tables found) table)) found.tables);
+  logs = map (λ log. log.0) found.logs;
+  temps = numbers (numbered temp_number found.files);
+  lost = filter (λ name. is_lost (name_of name)) (map (λ file. file.0) found.files);
+  records = last_records (taken_records found);
+  remainder = remainder_of found;
 }
 
--- Why these tables and logs aren't salvaged, but for numbers: a file that isn't supported, or a family that is
--- too large.
-abbrev pub refusal : List TableFile → List (ℕ × List Item) → Option SurveyErr
-refusal tables logs = elim (refused_file tables logs) [
+-- why these files aren't salvaged, but for their numbers: one that isn't supported, or a family that is too large
+abbrev pub refusal : FoundFiles → Option SurveyErr
+refusal found = elim (refused_file found) [
   | Some why ↦ Some why
-  | None ↦ too_large (known_families tables) (last_in_order (taken_records tables logs)) (remainder_of tables logs)
+  | None ↦ too_large (known_families found) (last_in_order (taken_records found)) (remainder_of found)
 ]
 
--- what is made of the files, unless the greatest number is too great, or something else is refused
-abbrev pub unless_refused : {A : Type 0} → (Files → List TableFile → List (ℕ × List Item) → A) → Files → List TableFile → List (ℕ × List Item) → Result A SurveyErr
-unless_refused make files tables logs =
-    if nat_le (2 ^ 62) (greatest_number files) then Err (NumbersExhausted (greatest_number files))
-    else elim (refusal tables logs) [ Some why ↦ Err why | None ↦ Ok (make files tables logs) ]
+-- What is made of files that are found, unless the greatest number is too great or something else is refused.
+abbrev pub unless_refused : {A : Type 0} → (FoundFiles → A) → FoundFiles → Result A SurveyErr
+unless_refused make found =
+    if nat_le (2 ^ 62) (greatest_number found.files) then Err (NumbersExhausted (greatest_number found.files))
+    else elim (refusal found) [ Some why ↦ Err why | None ↦ Ok (make found) ]
 
--- the same, of a directory's files
-unfoldable pub of_files : {A : Type 0} → (Files → List TableFile → List (ℕ × List Item) → A) → Files → Result A SurveyErr
-of_files make files = unless_refused make files (tables_in files) (logs_in files)
-
--- What a salvage of the directory finds, or the first refusal.
+-- what a salvage of the directory finds, or the first refusal
 unfoldable pub salvage_of : Directory → Result Salvaged SurveyErr
-salvage_of d = of_files salvaged (entries d)
+salvage_of d = unless_refused salvaged (found_files (entries d))
 
--- The parts of a salvage of a directory of which no table and no log is refused: its known families, the
--- records that are admitted, those of the kept tables alone, and the remainder.
+-- a table or a log of the directory is refused, whatever its numbers and lengths are
 unfoldable pub refuses_file : Directory → Bool
-refuses_file d = elim (refused_file (tables_in (entries d)) (logs_in (entries d))) [ Some why ↦ true | None ↦ false ]
+refuses_file d = is_some (refused_file (found_files (entries d)))
 
+-- Of a directory of which no table and no log is refused, whatever its numbers and lengths are: its known families.
 unfoldable pub salvage_families : Directory → List FamilyName
-salvage_families d = known_families (tables_in (entries d))
+salvage_families d = known_families (found_files (entries d))
 
+-- the records that are admitted
 unfoldable pub salvage_records : Directory → RecordMap
-salvage_records d = last_records (taken_records (tables_in (entries d)) (logs_in (entries d)))
+salvage_records d = last_records (taken_records (found_files (entries d)))
 
+-- the records of the kept tables alone
 unfoldable pub tables_alone : Directory → RecordMap
-tables_alone d = last_records (kept_records (tables_in (entries d)))
+tables_alone d = last_records (kept_records (found_files (entries d)))
 
+-- the records that are admitted and that the kept tables alone don't hold with the same value
 unfoldable pub remainder : Directory → List Record
-remainder d = remainder_of (tables_in (entries d)) (logs_in (entries d))
+remainder d = remainder_of (found_files (entries d))
 
 -- the range deletions among the records that are admitted, with no bounds that they are cut to
 abbrev pub uncut_tombs : Directory → List Tomb
@@ -430,14 +456,15 @@ pub record IsSalvage (state : State) (d : Directory) : Type 0 where
   pub records : state.records ≡ salvage_records d
   pub tombs : (r : Record) → is_covered state.tombs r ≡ is_covered (uncut_tombs d) r
 
--- the names below `lost/` for this name from the first on, as many as n and one more
-abbrev lost_names : List ℕ → ℕ → List (List ℕ)
-lost_names name zero = lost_name name 0 ∷ []
-lost_names name (suc n) = lost_names name n ++ lost_name name (suc n) ∷ []
+-- the names below `lost/` for this name, from the one that is tried so late on, and so many more
+abbrev pub lost_names : List ℕ → ℕ → ℕ → List (List ℕ)
+lost_names name tried zero = lost_name name tried ∷ []
+lost_names name tried (suc more) = lost_name name tried ∷ lost_names name (suc tried) more
 
--- the first name below `lost/` that isn't taken
+-- The first name below `lost/` that isn't taken. One of the first is free, since more of them are looked at than
+-- are taken (law `one_free_lost_name`).
 unfoldable pub free_lost_name : List ℕ → List (List ℕ) → List ℕ
-free_lost_name name taken = unwrap_or (first_that (λ lost. not (list_any (bytes_eq lost) taken)) (lost_names name (length taken))) (lost_name name 0)
+free_lost_name name taken = unwrap_or (first_that (λ lost. not (list_any (bytes_eq lost) taken)) (lost_names name 0 (length taken))) (lost_name name 0)
 
 -- The files in the order in which they are moved, each with its name below `lost/`, which is free beside the
 -- names that are taken and those given before it.
@@ -445,62 +472,51 @@ unfoldable pub moves : List (List ℕ) → List (List ℕ) → List Moved
 moves taken [] = []
 moves taken (name ∷ names) = let lost = free_lost_name name taken in record { name = name; lost = lost } ∷ moves (lost ∷ taken) names
 
--- What a repair says of a directory with these files: what it moves, logs and then tables, and its counts.
-abbrev pub report : Files → List TableFile → List (ℕ × List Item) → Report
-report files tables logs = let found = salvaged files tables logs in record {
-  moved = moves (map (λ file. file.0) files) (map log_name found.logs ++ map table_name found.archived);
-  families = length found.families;
-  tables = length found.kept;
-  logs = length found.logs;
-  added = length (filter (λ family. list_any (λ r. r.family == family.id) found.remainder) found.families);
-  archived = length found.archived;
-  records = length (last_in_order (taken_records tables logs));
+-- How many families have records in the remainder: a table is added for each.
+abbrev pub added_count : FoundFiles → ℕ
+added_count found = length (filter (λ family. list_any (λ r. r.family == family.id) (remainder_of found)) (known_families found))
+
+-- What a repair says of these files: what it moves, logs and then tables, and its counts.
+abbrev pub report : FoundFiles → Report
+report found = let salvage = salvaged found in record {
+  moved = moves (map (λ file. file.0) found.files) (map log_name salvage.logs ++ map table_name salvage.archived);
+  families = length salvage.families;
+  tables = length salvage.kept;
+  logs = length salvage.logs;
+  added = added_count found;
+  archived = length salvage.archived;
+  records = length (last_in_order (taken_records found));
 }
 
--- The report of a repair of the directory, or the refusal.
-unfoldable pub repair_report : Directory → Result Report SurveyErr
-repair_report d = of_files report (entries d)
+-- the report of a repair of these files, or the first refusal
+unfoldable pub report_of_files : Files → Result Report SurveyErr
+report_of_files files = unless_refused report (found_files files)
 
--- A table of two blocks, with `a` = `x` at sequence 1 and `b` = `y` at 2: the data blocks at 0 and 26, the
--- metaindex at 52, the index at 65 and the footer at 106.
-first_block : List ℕ
-first_block = 0 ∷ 9 ∷ 1 ∷ codes "a" ++ 1 ∷ 1 ∷ 0 ∷ 0 ∷ 0 ∷ 0 ∷ 0 ∷ 0 ∷ codes "x" ++ 0 ∷ 0 ∷ 0 ∷ 0 ∷ 1 ∷ 0 ∷ 0 ∷ 0 ∷ 0 ∷ 0x84 ∷ 0xdd ∷ 0x88 ∷ 0x74 ∷ []
-
-second_block : List ℕ
-second_block = 0 ∷ 9 ∷ 1 ∷ codes "b" ++ 1 ∷ 2 ∷ 0 ∷ 0 ∷ 0 ∷ 0 ∷ 0 ∷ 0 ∷ codes "y" ++ 0 ∷ 0 ∷ 0 ∷ 0 ∷ 1 ∷ 0 ∷ 0 ∷ 0 ∷ 0 ∷ 0xf1 ∷ 0x23 ∷ 0xbf ∷ 0x4d ∷ []
-
-after_blocks : List ℕ
-after_blocks =
-    0 ∷ 0 ∷ 0 ∷ 0 ∷ 1 ∷ 0 ∷ 0 ∷ 0 ∷ 0 ∷ 0xc0 ∷ 0xf2 ∷ 0xa1 ∷ 0xb0
-    ∷ 0 ∷ 9 ∷ 2 ∷ codes "a" ++ 1 ∷ 1 ∷ 0 ∷ 0 ∷ 0 ∷ 0 ∷ 0 ∷ 0 ∷ 0 ∷ 21 ∷ 0 ∷ 9 ∷ 2 ∷ codes "b" ++ 1 ∷ 2 ∷ 0 ∷ 0 ∷ 0 ∷ 0 ∷ 0 ∷ 0 ∷ 26 ∷ 21 ∷ 0 ∷ 0 ∷ 0 ∷ 0 ∷ 1 ∷ 0 ∷ 0 ∷ 0 ∷ 0 ∷ 0x6b ∷ 0xfb ∷ 0x67 ∷ 0xa3
-    ∷ 52 ∷ 8 ∷ 65 ∷ 36 ∷ replicate 36 0 ++ 0x57 ∷ 0xfb ∷ 0x80 ∷ 0x8b ∷ 0x24 ∷ 0x75 ∷ 0x47 ∷ 0xdb ∷ []
-
--- the part, computed
-part_computed : List ℕ → Option TablePart
-unfolding table_part readable_records footer_of checked_block crc32c crc_bytes crc_bits crc_bit block_entries entries_after index_entries
-part_computed table = table_part table
+-- what a repair of the directory reports, or the first refusal
+abbrev pub repair_report : Directory → Result Report SurveyErr
+repair_report d = report_of_files (entries d)
 
 -- a put of this value at a sequence number, in the default family
 put_of : List ℕ → ℕ → List ℕ → Record
 put_of key sequence value = record { family = 0; key = key; sequence = sequence; kind = Value; value = value }
 
--- a byte of the first block changed: the second block is read
-with_a_block_changed : part_computed (take 12 first_block ++ 0x79 ∷ drop 13 first_block ++ second_block ++ after_blocks)
-    ≡ Some (record { family = 0; name = codes "default"; ranges = []; records = put_of (codes "b") 2 (codes "y") ∷ [] })
-unfolding part_computed first_block second_block after_blocks put_of
-with_a_block_changed = refl
+-- a block of one record, a put of `a` = `x` at sequence 1
+block_of_a : List ℕ
+block_of_a = 0 ∷ 9 ∷ 1 ∷ codes "a" ++ 1 ∷ 1 ∷ 0 ∷ 0 ∷ 0 ∷ 0 ∷ 0 ∷ 0 ∷ codes "x" ++ 0 ∷ 0 ∷ 0 ∷ 0 ∷ 1 ∷ 0 ∷ 0 ∷ 0 ∷ []
 
--- a byte of the index changed: there is no part
-with_the_index_changed : part_computed (first_block ++ second_block ++ take 13 after_blocks ++ 1 ∷ drop 14 after_blocks) ≡ None
-unfolding part_computed first_block second_block after_blocks
-with_the_index_changed = refl
+-- a data block at an offset, and its separator
+entry_at : List ℕ → ℕ → IndexEntry
+entry_at separator offset = record { separator = separator; block = record { offset = offset; size = 21 } }
 
--- Both entries name the first block. It isn't above the first separator, and so its record is taken once.
-not_above_the_separator_before : readable_records (λ handle. Ok (take 21 first_block)) true None
-    (record { separator = codes "a"; block = record { offset = 0; size = 21 } } ∷ record { separator = codes "b"; block = record { offset = 0; size = 21 } } ∷ [])
-    ≡ record { key = codes "a" ++ 1 ∷ 1 ∷ 0 ∷ 0 ∷ 0 ∷ 0 ∷ 0 ∷ 0 ∷ []; parts = record { user = codes "a"; sequence = 1; kind = Value }; value = codes "x" } ∷ []
-unfolding readable_records block_entries entries_after first_block
-not_above_the_separator_before = refl
+-- The block at 26 can't be read. Of the two entries that name the other one, the second has a separator before it
+-- that the record isn't above.
+of_blocks_by_themselves :
+    map (λ entry. entry.value) (
+    readable_records (λ handle. if handle.offset == 26 then Err (damaged OutOfFile 26) else Ok block_of_a) true None
+    (entry_at (codes "A") 26 ∷ entry_at (codes "a") 0 ∷ entry_at (codes "b") 0 ∷ []))
+    ≡ codes "x" ∷ []
+unfolding readable_records block_entries entries_after block_of_a entry_at
+of_blocks_by_themselves = refl
 
 -- a table of this number, with one record of the key `k`
 of_family : ℕ → ℕ → List ℕ → TableRecords
@@ -524,7 +540,9 @@ unfolding placed slot_cmp put_of
 of_another_value = refl
 
 -- the lowest table comes before the lowest log
-of_unsupported_files : map (λ tables. refused_file tables ((3, end (Unsupported 9) 0 ∷ []) ∷ (5, rec (replicate 12 0 ++ 9 ∷ []) 0 ∷ []) ∷ [])) ([] ∷ (record { number = 6; size = 48; status = Err (unsupported Comparator); part = None } ∷ record { number = 8; size = 48; status = Err (unsupported External); part = None } ∷ []) ∷ [])
+of_unsupported_files :
+    map (λ tables. refused_file (record { files = []; tables = tables; logs = (3, end (Unsupported 9) 0 ∷ []) ∷ (5, rec (replicate 12 0 ++ 9 ∷ []) 0 ∷ []) ∷ [] }))
+    ([] ∷ (map (λ number. record { number = number; size = 48; status = Err (unsupported Comparator); part = None }) (6 ∷ 8 ∷ [])) ∷ [])
     ≡ Some (UnsupportedLog 3 (RecordType 9)) ∷ Some (UnsupportedTable 6 Comparator) ∷ []
 unfolding batch_of in_turn
 of_unsupported_files = refl
@@ -542,6 +560,6 @@ of_a_taken_lost_name : free_lost_name (codes "000005.log") (codes "lost/000005.l
 unfolding free_lost_name digits
 of_a_taken_lost_name = refl
 
-of_no_file : of_files report [] ≡ Ok (record { moved = []; families = 1; tables = 0; logs = 0; added = 0; archived = 0; records = 0 })
-unfolding of_files numbered greatest_number agreeing placed moves slot_cmp
+of_no_file : report_of_files [] ≡ Ok (record { moved = []; families = 1; tables = 0; logs = 0; added = 0; archived = 0; records = 0 })
+unfolding report_of_files numbered greatest_number agreeing placed moves slot_cmp
 of_no_file = refl

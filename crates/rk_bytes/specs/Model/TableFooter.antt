@@ -1,7 +1,7 @@
 -- Where the parts of a table are found: its footer, and the blocks of its handles with their trailers
 -- (RocksDB's wiki, "Rocksdb BlockBasedTable Format"; table/format.cc). The order of the tests is this
 -- project's own rule.
-use Rattle.std.specs.Prelude.{◌≡◌, ℕ, ◌+◌, ◌-◌, ◌==◌, Bool, true, not, ◌||◌, List, [], ◌∷◌, ◌++◌, length, take, drop, replicate, slice_index, nat_lt, nat_le, ◌^◌, if◌then◌else◌, Result, Ok, Err, refl}
+use Rattle.std.specs.Prelude.{◌≡◌, ℕ, ◌+◌, ◌-◌, ◌==◌, Bool, true, not, ◌||◌, List, [], ◌∷◌, ◌++◌, length, map, take, drop, replicate, slice_index, nat_lt, nat_le, ◌^◌, if◌then◌else◌, Result, Ok, Err, refl}
 use Rattle.rk_bytes.specs.declared.model.block.Handle.{Handle}
 use Rattle.rk_bytes.specs.declared.model.table.SumKind.{SumKind}
 use Rattle.rk_bytes.specs.declared.model.table.SumKind.TheVariants.{NoSum, Crc32c, Xxh32, Xxh64}
@@ -11,7 +11,7 @@ use Rattle.rk_bytes.specs.declared.model.table.FooterFault.TheVariants.{FooterSh
 use Rattle.rk_bytes.specs.declared.model.table.TrailerFault.{TrailerFault}
 use Rattle.rk_bytes.specs.declared.model.table.TrailerFault.TheVariants.{OutOfFile, Checksum, Compressed}
 use Rattle.rk_bytes.specs.Model.Numbers.{little_endian, ◌>>=◌}
-use Rattle.rk_bytes.specs.Model.Checksums.{crc_bit, crc_bits, crc_bytes, crc32c, block_sum}
+use Rattle.rk_bytes.specs.Model.Checksums.{crc_bit, crc_bits, crc_bytes, crc32c, pieces, xxh32, xxh32_mixed, xxh32_with_rest, xxh64, xxh64_mixed, xxh64_with_rest, block_sum}
 use Rattle.rk_bytes.specs.Model.BlockEntries.{with_fault, handle_at}
 
 -- the kind of checksum with this number
@@ -107,10 +107,6 @@ version_before_checksum : footer_of (newer 4 6) ≡ Err (UnsupportedVersion 6)
 unfolding footer_of newer
 version_before_checksum = refl
 
-with_a_byte_less : footer_of (drop 1 (newer 3 5)) ≡ Err FooterShort
-unfolding footer_of newer
-with_a_byte_less = refl
-
 place_of_a_newer_footer : footer_start (0 ∷ 0 ∷ newer 3 5) ≡ 2
 unfolding newer
 place_of_a_newer_footer = refl
@@ -123,3 +119,39 @@ checksum_before_compression = refl
 unsummed_and_compressed : checked_block (7 ∷ 1 ∷ 0 ∷ 0 ∷ 0 ∷ 0 ∷ []) (record { offset = 0; size = 1 }) NoSum ≡ Err (Compressed 1)
 unfolding checked_block
 unsummed_and_compressed = refl
+
+of_bad_handles : map footer_of ((replicate 40 0xFF ++ drop 40 legacy) ∷ (26 ∷ 8 ∷ replicate 38 0xFF ++ drop 40 legacy) ∷ []) ≡ Err BadHandle ∷ Err BadHandle ∷ []
+unfolding footer_of legacy
+of_bad_handles = refl
+
+-- with a byte less, without a magic number, with checksum kind 4, and with version 0
+of_no_footer : map footer_of (drop 1 (newer 3 5) ∷ replicate 48 0 ∷ newer 4 5 ∷ newer 3 0 ∷ [])
+    ≡ Err FooterShort ∷ Err BadMagic ∷ Err (UnsupportedChecksum 4) ∷ Err (UnsupportedVersion 0) ∷ []
+unfolding footer_of newer
+of_no_footer = refl
+
+of_each_kind : map (λ kind. footer_of (newer kind 1) >>= λ footer. Ok footer.sum) (0 ∷ 1 ∷ 2 ∷ 3 ∷ []) ≡ Ok NoSum ∷ Ok Crc32c ∷ Ok Xxh32 ∷ Ok Xxh64 ∷ []
+unfolding footer_of newer
+of_each_kind = refl
+
+-- the block of this type whose one byte stands at 1, with the four bytes of its sum
+one_byte : ℕ → List ℕ → SumKind → Result (List ℕ) TrailerFault
+unfolding checked_block crc32c crc_bytes crc_bits crc_bit xxh32 xxh32_mixed xxh32_with_rest xxh64 xxh64_mixed xxh64_with_rest pieces
+one_byte type_byte stored sum = checked_block (9 ∷ 7 ∷ type_byte ∷ stored) (record { offset = 1; size = 1 }) sum
+
+of_each_sum : one_byte 0 (0xf1 ∷ 0 ∷ 0xb2 ∷ 31 ∷ []) Crc32c ∷ one_byte 0 (0x79 ∷ 39 ∷ 0xef ∷ 78 ∷ []) Xxh32
+    ∷ one_byte 0 (0xbc ∷ 87 ∷ 0xc0 ∷ 0x78 ∷ []) Xxh64 ∷ one_byte 0 (1 ∷ 2 ∷ 3 ∷ 4 ∷ []) NoSum ∷ []
+    ≡ replicate 4 (Ok (7 ∷ []))
+unfolding one_byte
+of_each_sum = refl
+
+summed_and_compressed : one_byte 1 (0xa6 ∷ 0xdd ∷ 0xab ∷ 29 ∷ []) Crc32c ≡ Err (Compressed 1)
+unfolding one_byte
+summed_and_compressed = refl
+
+-- A block of two bytes ends with its trailer one byte beyond these. No file holds the last one.
+out_of_the_file : map (λ handle. checked_block (9 ∷ 7 ∷ replicate 5 0) handle NoSum) (
+    record { offset = 1; size = 1 } ∷ record { offset = 1; size = 2 } ∷ record { offset = 3; size = 0 } ∷ record { offset = 1; size = 18446744073709551615 } ∷ [])
+    ≡ Ok (7 ∷ []) ∷ Err OutOfFile ∷ Err OutOfFile ∷ Err OutOfFile ∷ []
+unfolding checked_block
+out_of_the_file = refl

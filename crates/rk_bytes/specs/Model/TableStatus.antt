@@ -1,12 +1,11 @@
 -- Whether a table is good, damaged or not supported, and what it holds (RocksDB's wiki, "Rocksdb
 -- BlockBasedTable Format"; table/block_based/block_based_table_reader.cc, table/table_properties.cc).
 -- The tests and their order are this project's own rule.
-use Rattle.std.specs.Prelude.{◌≡◌, ℕ, ◌+◌, ◌-◌, ◌^◌, ◌==◌, min, max, Bool, true, false, not, ◌&&◌, ◌||◌, List, [], ◌∷◌, ◌++◌, length, map, take, drop, find, fold, replicate, nat_lt, nat_le, if◌then◌else◌, Option, Some, None, is_some, option_map, unwrap_or, Result, Ok, Err, bytes_eq, codes, decimal, refl}
+use Rattle.std.specs.Prelude.{◌≡◌, ℕ, ◌-◌, ◌^◌, ◌==◌, min, max, Bool, true, false, not, ◌&&◌, ◌||◌, List, [], ◌∷◌, ◌++◌, length, map, take, drop, find, fold, replicate, nat_lt, nat_le, if◌then◌else◌, Option, Some, None, is_some, option_map, unwrap_or, Result, Ok, Err, bytes_eq, codes, decimal, refl}
 use Rattle.std.specs.List.{list_all, last_or, reduce}
 use Rattle.std.specs.declared.cmp.Ordering.{Ordering}
 use Rattle.std.specs.Ordering.{nat_cmp, is_lt, is_gt}
 use Rattle.std.specs.Cmp.Lexicographic.{slice_cmp}
-use Rattle.std.specs.Fmt.{digits}
 use Rattle.rk_bytes.specs.declared.model.block.Handle.{Handle}
 use Rattle.rk_bytes.specs.declared.model.table.SumKind.TheVariants.{Crc32c}
 use Rattle.rk_bytes.specs.declared.model.table.Footer.{Footer}
@@ -408,45 +407,17 @@ shorter_than_a_footer : computed (take 47 one_record) ≡ Err (damaged FooterSho
 unfolding computed one_record
 shorter_than_a_footer = refl
 
--- one block twice, the second time at 26
-twice_the_same_key : data_records (λ handle. Ok (take 21 data_part)) false None None (record { separator = key_of_a; block = record { offset = 0; size = 21 } } ∷ record { separator = key_of_a; block = record { offset = 26; size = 21 } } ∷ []) ≡ Err (damaged BadOrder 26)
-unfolding block_entries entries_after data_part key_of_a
-twice_the_same_key = refl
+-- A table whose blocks aren't summed. Its metaindex, at 0, has these bytes, of which so many are its own.
+unsummed : List ℕ → ℕ → List ℕ
+unsummed bytes size =
+    bytes ++ (0 ∷ 0 ∷ size ∷ 0 ∷ size ∷ []) ++ replicate 36 0 ++ (5 ∷ 0 ∷ 0 ∷ 0 ∷ 0xf7 ∷ 0xcf ∷ 0xf4 ∷ 0x85 ∷ 0xb7 ∷ 0x41 ∷ 0xe2 ∷ 0x88 ∷ [])
 
-above_the_separator : data_records (λ handle. Ok (take 21 data_part)) true None None (record { separator = []; block = record { offset = 0; size = 21 } } ∷ []) ≡ Err (damaged BadSeparator 0)
-unfolding block_entries entries_after data_part
-above_the_separator = refl
-
--- a block of these entries with one restart, at 0
-one_restart : List ℕ → List ℕ
-one_restart entries = entries ++ 0 ∷ 0 ∷ 0 ∷ 0 ∷ 1 ∷ 0 ∷ 0 ∷ 0 ∷ []
-
--- the records of a table whose only data block has these entries, at 3 and up to the separator `b`
-of_one_block : List ℕ → Result (List DataEntry) TableFault
-unfolding block_entries entries_after one_restart
-of_one_block entries = data_records (λ handle. Ok (one_restart entries)) true None None (record { separator = codes "b"; block = record { offset = 3; size = length entries + 8 } } ∷ [])
-
--- an entry of a record with this number of a kind: `a` at sequence 1
-of_kind : ℕ → List ℕ
-of_kind number = 0 ∷ 9 ∷ 0 ∷ codes "a" ++ number ∷ 1 ∷ 0 ∷ 0 ∷ 0 ∷ 0 ∷ 0 ∷ 0 ∷ []
-
-of_an_unsupported_kind : of_one_block (of_kind 16) ≡ Err (unsupported (RecordKind 16))
-unfolding of_one_block of_kind
-of_an_unsupported_kind = refl
-
-of_a_range_deletion_among_records : of_one_block (of_kind 15) ≡ Err (damaged BadKey 3)
-unfolding of_one_block of_kind
-of_a_range_deletion_among_records = refl
-
-without_a_record : of_one_block [] ≡ Err (damaged BadSeparator 3)
-unfolding of_one_block
-without_a_record = refl
-
--- another comparator, and a number without a value
-form_before_comparator : properties_at (λ handle. Ok (one_restart (0 ∷ 18 ∷ 0 ∷ codes "rocksdb.comparator" ++ 0 ∷ 19 ∷ 0 ∷ codes "rocksdb.num.entries"))) (record { offset = 9; size = 51 }) ≡ Err (damaged BadProperty 9)
-unfolding property_list block_entries entries_after one_restart
-form_before_comparator = refl
-
-without_a_name : family_name_of (record { name = codes "rocksdb.column.family.id"; value = 7 ∷ [] } ∷ []) ≡ codes "family-7"
-unfolding digits
-without_a_name = refl
+-- the metaindex with a byte of its trailer missing, compressed, with a hash index, without a restart, and with a
+-- value of one byte
+of_the_metaindex : map computed (
+    unsummed (0 ∷ 0 ∷ 0 ∷ 0 ∷ 1 ∷ 0 ∷ 0 ∷ 0 ∷ 0 ∷ 0 ∷ 0 ∷ 0 ∷ []) 8 ∷ unsummed (0 ∷ 0 ∷ 0 ∷ 0 ∷ 1 ∷ 0 ∷ 0 ∷ 0 ∷ 7 ∷ 0 ∷ 0 ∷ 0 ∷ 0 ∷ []) 8
+    ∷ unsummed (0 ∷ 0 ∷ 0 ∷ 0 ∷ 1 ∷ 0 ∷ 0 ∷ 0x80 ∷ 0 ∷ 0 ∷ 0 ∷ 0 ∷ 0 ∷ []) 8 ∷ unsummed (replicate 9 0) 4
+    ∷ unsummed (0 ∷ 1 ∷ 1 ∷ codes "a" ++ 7 ∷ 0 ∷ 0 ∷ 0 ∷ 0 ∷ 1 ∷ replicate 8 0) 13 ∷ [])
+    ≡ Err (damaged OutOfFile 0) ∷ Err (unsupported (Compressed 7)) ∷ Err (unsupported HashIndex) ∷ Err (damaged Block 0) ∷ Err (damaged BadHandle 0) ∷ []
+unfolding computed unsummed
+of_the_metaindex = refl

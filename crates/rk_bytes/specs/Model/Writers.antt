@@ -38,8 +38,8 @@ change_bytes r = family_bytes r ++ prefixed_of r.key ++ value_bytes r.kind r.val
 unfoldable pub batch_bytes : ℕ → List Record → List ℕ
 batch_bytes sequence records = fixed_of 8 sequence ++ fixed_of 4 (length records) ++ flat_map change_bytes records
 
--- items in groups, the last group first, with one more item: it begins a group where the last one is full
-abbrev with_item : {A : Type 0} → (List A → Bool) → List (List A) → A → List (List A)
+-- groups, the last one first, with one more item: it begins a group where the last one is full
+abbrev pub with_item : {A : Type 0} → (List A → Bool) → List (List A) → A → List (List A)
 with_item is_full [] item = (item ∷ []) ∷ []
 with_item is_full (last ∷ groups) item = if is_full last then (item ∷ []) ∷ last ∷ groups else (last ++ item ∷ []) ∷ groups
 
@@ -129,8 +129,8 @@ plain_properties table =
     ∷ (codes "rocksdb.index.value.is.delta.encoded", varint_of 0)
     ∷ (codes "rocksdb.num.entries", varint_of (length table.records + length table.ranges)) ∷ []
 
--- The properties that some tables have besides, whose names come after these: how many bytes the internal
--- keys have, and the values.
+-- The properties that the tables of a repair have besides, since RocksDB divides by their sum: how many bytes
+-- the internal keys have, and the values. Their names come after those above.
 abbrev pub size_properties : TableContents → List KeyValue
 size_properties table =
     let entries = data_entries table ++ range_entries table in
@@ -229,19 +229,19 @@ pub record Repaired : Type 0 where
   pub families : List RepairedFamily
 
 -- the edit of the default family
-abbrev default_edit : Repaired → List NewFile → List Field
+abbrev pub default_edit : Repaired → List NewFile → List Field
 default_edit repaired files =
     comparator bytewise_name ∷ log_number repaired.log_number ∷ next_file repaired.next_file ∷ last_sequence repaired.last_sequence
     ∷ greatest_family (fold max 0 (map (λ one. one.id) repaired.families)) ∷ map add_file files
 
 -- The edit that adds the tables of another family, if it has some. It isn't the one that adds the family,
 -- since RocksDB passes over the files in such an edit.
-abbrev file_edits : ℕ → List NewFile → List (List Field)
+abbrev pub file_edits : ℕ → List NewFile → List (List Field)
 file_edits id [] = []
 file_edits id files = (family id ∷ map add_file files) ∷ []
 
 -- the edits of a family
-abbrev family_edits : Repaired → RepairedFamily → List (List Field)
+abbrev pub family_edits : Repaired → RepairedFamily → List (List Field)
 family_edits repaired one =
     if one.id == 0 then default_edit repaired one.files ∷ []
     else (family one.id ∷ family_add one.name ∷ comparator bytewise_name ∷ log_number repaired.log_number ∷ []) ∷ file_edits one.id one.files
@@ -255,7 +255,7 @@ unfoldable pub repair_manifest : Repaired → List ℕ
 repair_manifest repaired = written_log None (map edit_bytes (repair_edits repaired))
 
 -- the range deletion that a record is
-abbrev range_in : Record → Option RangeDel
+abbrev pub range_in : Record → Option RangeDel
 range_in r = if is_range_deletion r.kind then Some (record { start = r.key; end = r.value; sequence = r.sequence }) else None
 
 -- The table that a repair adds for a family, of the records that it lacks, in the order of their places. It
@@ -264,6 +264,7 @@ abbrev pub added_contents : ℕ → List ℕ → List Record → TableContents
 added_contents id name records =
     record { family = id; family_name = name; records = filter (λ r. not (is_range_deletion r.kind)) records; ranges = filter_map range_in records }
 
+-- that table's bytes
 unfoldable pub added_table : ℕ → List ℕ → List Record → List ℕ
 added_table id name records = table_bytes true (added_contents id name records)
 

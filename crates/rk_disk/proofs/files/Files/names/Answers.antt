@@ -3,7 +3,7 @@ use Rattle.std.proofs.lemmas.Simd.{map-map}
 use Rattle.std.specs.FinMap as directory
 use Rattle.std.specs.Map.Iter.{deref}
 use Rattle.std.proofs.lemmas.Map.Iter.{iter_end}
-use Rattle.rk_disk.proofs.Directories.{keys-directory_of}
+use Rattle.rk_disk.proofs.ByName.{keys-parts_by_name}
 use Rattle.rk_disk.proofs.files.Files.names.Goals as goal
 
 pub returns : goal.returns
@@ -13,5 +13,5 @@ returns c =
     c.loop-name.invariant
     ∙ sym (map-map string_bytes deref c.loop-name.yielded)
     ∙ ap (map string_bytes) all.0
-    ∙ sym (keys-directory_of c.self.inside.by_name.entries c.keys-name-items.ensures.ordered)
-    ∙ ap directory.keys c.self.view_is
+    ∙ sym (keys-parts_by_name _ c.self.inside.by_name.entries c.keys-name-items.ensures.ordered)
+    ∙ ap (λ files. directory.keys files.contents) c.self.view_is

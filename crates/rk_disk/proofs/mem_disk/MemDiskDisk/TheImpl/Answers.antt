@@ -1,7 +1,8 @@
-use Rattle.std.proofs.Common.{◌≡◌, ◌^◌, ◌<◌, ◌++◌, [], length, drop, Some, IfOk, IfSome, unwrap_or, sym, ap, subst}
+use Rattle.std.proofs.Common.{◌≡◌, ◌^◌, ◌<◌, ◌++◌, [], length, drop, Some, Ok, Err, true, IfOk, OnErr, IfSome, unwrap_or, sym, ap, subst}
 use Rattle.std.specs.Option.{option_map}
 use Rattle.std.specs.FinMap as map
 use Rattle.rk_bytes.specs.Model.DiskImages.{Directory, told_at_rest, part_of_file}
+use Rattle.rk_disk.specs.InMemory.{after_read, after_reading}
 use Rattle.rk_bytes.proofs.DiskLemmas.{contents-resting}
 use Rattle.rk_disk.proofs.mem_disk.MemDiskDisk.TheImpl.Goals as goal
 
@@ -28,7 +29,11 @@ read-tells c =
     record {
       within = c.ensures.within;
       part = subst IsPart (sym (contents-resting c.args.self.now.files)) c.ensures.part;
+      short = subst (λ files. IfOk c.result (λ _. IfSome (map.get files c.args.name.now) (λ bytes. length bytes < 2 ^ 64))) (sym (contents-resting c.args.self.now.files)) c.ensures.short;
       memory = λ is. absurd (c.ensures.memory is);
-      left = ap (λ disk. Some (told_at_rest disk.files)) c.ensures.counted;
+      left = elim c.result as (λ r. IfOk r (λ n. c.new.self.now ≡ after_read c.args.name.now n c.args.self.now) → OnErr r (c.new.self.now ≡ after_reading true c.args.self.now) → Some (told_at_rest c.new.self.now.files) ≡ Some (told_at_rest c.args.self.now.files)) [
+        | Ok n ↦ λ ok _. ap (λ disk. Some (told_at_rest disk.files)) ok
+        | Err e ↦ λ _ err. ap (λ disk. Some (told_at_rest disk.files)) err
+      ] c.ensures.counted c.ensures.refused;
       faults = c.ensures.faults;
     }

@@ -1,0 +1,86 @@
+ghost use Rattle.std.specs.Prelude.{◌≡◌, ◌++◌, ◌∷◌, [], codes, decimal, OnOk};
+ghost use Rattle.rk_bytes.specs.Model.Lines.{quoted, then_number, line};
+
+use itoa::Buffer;
+use rk_bytes::{Bytes, Memory};
+use std::alloc::Global;
+use std::marker::Model;
+
+/// A line that is being made. Contracts see its bytes. What stands in it after a call that lacks memory
+/// is a part of a line, which the next `clear` takes away.
+#[derive(Debug, Drop)]
+pub struct Line {
+    pub(crate) bytes: Vec<u8>,
+}
+
+impl Model for Line {
+    ghost use Rattle.std.specs.Prelude.{List, ℕ};
+
+    ghost Value = { List ℕ };
+
+    ghost view = { λ l. l.bytes.items };
+}
+
+impl Line {
+    /// An empty line. Takes no memory yet.
+    pub fn new(alloc: Global) -> Line
+        ensures { result ≡ [] }
+    {
+        Line {
+            bytes: Vec::new(alloc),
+        }
+    }
+
+    /// The bytes of the line.
+    pub fn as_slice(&self) -> &[u8]
+        ensures { result.now ≡ self.now }
+    {
+        self.bytes.as_slice()
+    }
+
+    /// The bytes of the line, taking no memory.
+    pub(crate) fn into_bytes(self) -> Bytes
+        ensures { result ≡ self }
+    {
+        let Line { bytes } = self;
+        Bytes::from_vec(bytes)
+    }
+
+    /// Takes away what stands in the line, and keeps its memory.
+    pub(crate) fn clear(&mut self)
+        ensures { self.new ≡ [] }
+    {
+        self.bytes.clear();
+    }
+
+    /// Puts the bytes at the end.
+    pub(crate) fn put(&mut self, bytes: &[u8]) -> Result<(), Memory>
+        ensures { OnOk result (self.new ≡ self.old ++ bytes.now) }
+    {
+        self.bytes.extend_from_slice(bytes)?;
+        Ok(())
+    }
+
+    /// Puts the number at the end, in decimal.
+    pub(crate) fn put_decimal(&mut self, number: u64) -> Result<(), Memory>
+        ensures { OnOk result (self.new ≡ self.old ++ decimal number) }
+    {
+        let mut buffer = Buffer::new();
+        self.put(buffer.format(number).as_bytes())
+    }
+
+    /// Puts a space and the number at the end.
+    pub(crate) fn put_number(&mut self, number: u64) -> Result<(), Memory>
+        ensures { OnOk result (self.new ≡ self.old ++ then_number number) }
+    {
+        self.put(b" ")?;
+        self.put_decimal(number)
+    }
+
+    /// Ends the line.
+    pub(crate) fn end(&mut self) -> Result<(), Memory>
+        ensures { OnOk result (self.new ≡ line self.old) }
+    {
+        self.put(b"\n")
+    }
+}

@@ -1,0 +1,98 @@
+//! Bytes as they are shown: in hexadecimal, or between quotation marks.
+ghost use Rattle.std.specs.Prelude.{◌≡◌, ◌++◌, ◌∷◌, [], OnOk, flat_map, codes, take, drop, length, ◌≤◌};
+ghost use Rattle.std.specs.List.{prefix_len};
+ghost use Rattle.hex.specs.Hex.{encode_lower};
+ghost use Rattle.rk_bytes.specs.Model.Lines.{quoted, shown_byte, stands_for_itself};
+
+use crate::Line;
+use rk_bytes::Memory;
+
+impl Line {
+    /// Puts the bytes at the end: in hexadecimal after `0x`, or between quotation marks.
+    pub(crate) fn put_quoted(&mut self, bytes: &[u8], hex: bool) -> Result<(), Memory>
+        ensures { OnOk result (self.new ≡ self.old ++ quoted hex bytes.now) }
+    {
+        if hex {
+            self.put(b"0x")?;
+            self.put_hex(bytes)
+        } else {
+            self.put(b"\"")?;
+            self.put_shown(bytes)?;
+            self.put(b"\"")
+        }
+    }
+
+    /// Puts two digits for each byte at the end.
+    fn put_hex(&mut self, bytes: &[u8]) -> Result<(), Memory>
+        ensures { OnOk result (self.new ≡ self.old ++ encode_lower bytes.now) }
+    {
+        for byte in bytes {
+            self.put(&digits(*byte))?;
+        }
+        Ok(())
+    }
+
+    /// Puts the bytes at the end as they stand between quotation marks, run by run of those that stand
+    /// for themselves.
+    fn put_shown(&mut self, bytes: &[u8]) -> Result<(), Memory>
+        ensures { OnOk result (self.new ≡ self.old ++ flat_map shown_byte bytes.now) }
+    {
+        let mut rest = bytes;
+        loop {
+            let (run, others) = split_run(rest);
+            self.put(run)?;
+            let Some((byte, after)) = others.split_first() else {
+                return Ok(());
+            };
+            self.put_escaped(*byte)?;
+            rest = after;
+        }
+    }
+
+    /// Puts a byte that doesn't stand for itself at the end.
+    fn put_escaped(&mut self, byte: u8) -> Result<(), Memory>
+        ensures { OnOk result (self.new ≡ self.old ++ (codes "\\x" ++ encode_lower (byte ∷ []))) }
+    {
+        self.put(b"\\x")?;
+        self.put(&digits(byte))
+    }
+}
+
+/// The bytes at the front that stand for themselves between quotation marks, and the others.
+fn split_run(bytes: &[u8]) -> (&[u8], &[u8])
+    ensures run { result.0.now ≡ take (prefix_len stands_for_itself bytes.now) bytes.now }
+    ensures others { result.1.now ≡ drop (prefix_len stands_for_itself bytes.now) bytes.now }
+{
+    bytes.split_at(plain_len(bytes))
+}
+
+/// How many bytes at the front stand for themselves between quotation marks.
+fn plain_len(bytes: &[u8]) -> usize
+    ensures value { result ≡ prefix_len stands_for_itself bytes.now }
+    ensures within { result ≤ length bytes.now }
+{
+    for (i, byte) in bytes.iter().enumerate() {
+        if !stands_for_itself(*byte) {
+            return i;
+        }
+    }
+    bytes.len()
+}
+
+/// Whether the byte stands for itself between quotation marks.
+fn stands_for_itself(byte: u8) -> bool
+    ensures { result ≡ stands_for_itself byte }
+{
+    matches!(byte, b' '..=b'~') && byte != b'"' && byte != b'\\'
+}
+
+/// The two digits of a byte.
+#[tactic(auto, unfolding(hex::specs::Hex::encode_with))]
+fn digits(byte: u8) -> [u8; 2]
+    ensures { result ≡ encode_lower (byte ∷ []) }
+{
+    [DIGITS[(byte / 16) as usize], DIGITS[(byte % 16) as usize]]
+}
+
+/// The digits by their values.
+const DIGITS: [u8; 16] = *b"0123456789abcdef";
