@@ -2,7 +2,7 @@ ghost use Rattle.std.specs.Prelude.{◌≡◌, ◌++◌, ◌∷◌, [], codes, d
 ghost use Rattle.rk_bytes.specs.Model.Lines.{quoted, then_number, line};
 
 use itoa::Buffer;
-use rk_bytes::Memory;
+use rk_bytes::{Bytes, Memory};
 use std::alloc::Global;
 use std::marker::Model;
 
@@ -36,6 +36,14 @@ impl Line {
         ensures { result.now ≡ self.now }
     {
         self.bytes.as_slice()
+    }
+
+    /// The bytes of the line, taking no memory.
+    pub(crate) fn into_bytes(self) -> Bytes
+        ensures { result ≡ self }
+    {
+        let Line { bytes } = self;
+        Bytes::from_vec(bytes)
     }
 
     /// Takes away what stands in the line, and keeps its memory.
