@@ -24,10 +24,10 @@ abbrev pub read_by : {A : Type 0} → Result A NumFault → Reading → Read A
 read_by (Ok x) after = Ok (x, rest_of after)
 read_by (Err fault) after = Err fault
 
--- new is old, perhaps further on
+-- new is old, perhaps further on, and within its bytes if old was
 pub record IsFurther (old new : Reading) : Type 0 where
   pub same : new.bytes ≡ old.bytes
-  pub within : new.place ≤ length new.bytes
+  pub within : old.place ≤ length old.bytes → new.place ≤ length new.bytes
 
 -- a value at the front of bytes and how many bytes it has, as the value and the bytes after it
 abbrev pub found_at : {A : Type 0} → List ℕ → Result (A × ℕ) NumFault → Read A

@@ -11,7 +11,6 @@ mod EditFiles
 mod EditTracked
 mod EntryLemmas
 mod FixedNumbers
-mod InTurn
 mod IndexLaw
 mod LostNames
 mod ManifestUnits
