@@ -1,9 +1,10 @@
 //! The disk and the output as the layers above see them, forms of both in memory, and the reading
-//! of a whole file.
+//! of a file, whole or a piece of it.
 #![tactic(auto)]
 
 mod disk;
 mod files;
+mod lying_disk;
 mod mem_disk;
 mod mem_sink;
 mod plan;
@@ -11,9 +12,10 @@ mod read;
 mod sink;
 
 pub use disk::{Disk, DiskErr};
+pub use lying_disk::LyingDisk;
 pub use mem_disk::MemDisk;
 pub use mem_sink::MemSink;
-pub use read::read_file;
+pub use read::{read_file, read_piece};
 pub use sink::{Sink, SinkErr};
 
 #[cfg(test)]

@@ -1,6 +1,6 @@
-ghost use Rattle.std.specs.Prelude.{◌≡◌, [], length, take, IfOk, IfSome, unwrap_or};
+ghost use Rattle.std.specs.Prelude.{◌≡◌, ◌+◌, ◌^◌, ◌<◌, ◌≤◌, ◌++◌, [], length, take, drop, IfOk, IfSome, unwrap_or};
 ghost use Rattle.std.specs.FinMap as map;
-ghost use Rattle.rk_bytes.specs.Model.DiskImages.{IsLeft, contents_told, Counts};
+ghost use Rattle.rk_bytes.specs.Model.DiskImages.{IsLeft, contents_told, part_of_file, Counts};
 ghost use Rattle.rk_disk.specs.Faults.{disk_failed};
 
 use crate::{Disk, DiskErr};
@@ -10,10 +10,44 @@ use std::alloc::Global;
 /// How many bytes one `read` asks for at most.
 const READ_LEN: usize = 32_768;
 
+/// Fills the front of the buffer as one `read` would that goes on to the buffer's or the file's end,
+/// and says how many bytes these are: it reads until the buffer is full or a `read` gives none.
+///
+/// It takes no memory of its own. `Failed` comes where the disk fails. After an `Err` a part of the
+/// buffer may be filled.
+pub fn read_piece<D: Disk>(
+    disk: &mut D,
+    name: &str,
+    at: u64,
+    buf: &mut [u8],
+) -> Result<usize, DiskErr>
+    ensures within { IfOk result (λ n. n ≤ length buf.old) }
+    ensures part { IfOk result (λ n. IfSome (contents_told (D.told disk.old)) (λ files.
+        let part = part_of_file at (length buf.old) (unwrap_or (map.get files name.now) []) in
+        (n ≡ length part) × (buf.new ≡ part ++ drop n buf.old))) }
+    ensures left { IsLeft (D.told disk.old) (D.told disk.new) }
+    ensures faults { Counts (disk_failed result) (D.faults disk.old) (D.faults disk.new) }
+{
+    let mut filled = 0;
+    while filled < buf.len() {
+        // No byte lies past the last place of a u64.
+        let Some(place) = at.checked_add(filled as u64) else {
+            break;
+        };
+        let got = disk.read(name, place, &mut buf[filled..])?;
+        if got == 0 {
+            break;
+        }
+        filled += got;
+    }
+    Ok(filled)
+}
+
 /// The whole file, or `None` where there is no file of that name.
 ///
-/// It asks for the size, takes memory for that many bytes once, and reads pieces of at most 32,768
-/// bytes up to the size, or to the first read that gives none. `Failed` comes where the disk fails.
+/// It asks for the size, and reads pieces of at most 32,768 bytes into the room behind what it has
+/// read, up to the size or to the first read that gives none, so that it takes no memory for bytes
+/// that the disk only claims to have. `Failed` comes where the disk fails.
 pub fn read_file<D: Disk>(alloc: Global, disk: &mut D, name: &str) -> Result<Option<Bytes>, DiskErr>
     ensures file { IfOk result (λ file. IfSome (contents_told (D.told disk.old)) (λ files. file ≡ map.get files name.now)) }
     ensures left { IsLeft (D.told disk.old) (D.told disk.new) }
@@ -38,15 +72,36 @@ fn read_front<D: Disk>(
     ensures faults { Counts (disk_failed result) (D.faults disk.old) (D.faults disk.new) }
 {
     let len = size as usize;
-    let mut bytes = Vec::with_capacity(alloc, len)?;
-    let mut piece = [0; READ_LEN];
+    let mut bytes = Vec::new(alloc);
     while bytes.len() < len {
         let wanted = READ_LEN.min(len - bytes.len());
-        let got = disk.read(name, bytes.len() as u64, &mut piece[..wanted])?;
-        if got == 0 {
+        if read_behind(disk, name, &mut bytes, wanted)? < wanted {
             break;
         }
-        bytes.extend_from_slice(&piece[..got])?;
     }
     Ok(bytes)
+}
+
+/// Reads at most `wanted` more bytes of a file behind those that were read of it, and says how many
+/// these are: fewer where the file ends.
+fn read_behind<D: Disk>(
+    disk: &mut D,
+    name: &str,
+    bytes: &mut Vec<u8>,
+    wanted: usize,
+) -> Result<usize, DiskErr>
+    requires { length bytes.old.items + wanted < 2 ^ 64 }
+    ensures within { IfOk result (λ n. n ≤ wanted) }
+    ensures len { IfOk result (λ n. length bytes.new.items ≡ length bytes.old.items + n) }
+    ensures part { IfOk result (λ n. IfSome (contents_told (D.told disk.old)) (λ files.
+        let part = part_of_file (length bytes.old.items) wanted (unwrap_or (map.get files name.now) []) in
+        (n ≡ length part) × (bytes.new.items ≡ bytes.old.items ++ part))) }
+    ensures left { IsLeft (D.told disk.old) (D.told disk.new) }
+    ensures faults { Counts (disk_failed result) (D.faults disk.old) (D.faults disk.new) }
+{
+    let filled = bytes.len();
+    bytes.resize(filled + wanted, 0)?;
+    let got = read_piece(disk, name, filled as u64, &mut bytes[filled..])?;
+    bytes.truncate(filled + got);
+    Ok(got)
 }

@@ -1,3 +1,5 @@
+ghost use Rattle.std.specs.Prelude.{None};
+
 use super::*;
 use rk_bytes::{Seq, Text};
 use std::alloc::Global;
@@ -110,6 +112,74 @@ fn a_file_is_read_in_pieces(rt: HostRuntime) -> Result<(), Fail> {
             "{name}"
         );
         assert_eq!(rt; disk.calls(), calls, "{name}");
+    }
+    Ok(())
+}
+
+#[test]
+fn a_size_is_not_believed(rt: HostRuntime) -> Result<(), Fail> {
+    let alloc = rt.alloc();
+    let mut disk = LyingDisk::new(alloc);
+    for (size, bytes, read) in [
+        (1 << 62, b"".as_slice(), b"".as_slice()),
+        (u64::MAX, b"abc", b"abc"),
+        (2, b"abc", b"ab"),
+    ] {
+        disk.say("f", size, bytes)?;
+        assert_eq!(rt; size_of_file(&mut disk, "f"), Ok(Some(size)));
+        let file = read_file(alloc, &mut disk, "f")?;
+        assert_eq!(rt;
+            file.as_ref().map(|file| file.as_slice()),
+            Some(read),
+            "{size}"
+        );
+    }
+    assert_eq!(rt; names_of(alloc, &mut disk)?.as_slice().len(), 1);
+    assert_eq!(rt; read_file(alloc, &mut disk, "absent")?.is_none(), true);
+    Ok(())
+}
+
+// A disk whose reads give one byte at most.
+#[derive(Drop)]
+struct Slow {
+    disk: MemDisk,
+}
+
+impl Disk for Slow {
+    ghost told = { λ _. None };
+
+    ghost faults = { λ slow. slow.disk.plan.failed };
+
+    fn names(&mut self, alloc: Global) -> Result<Seq<Text>, DiskErr> {
+        self.disk.names(alloc)
+    }
+
+    fn size(&mut self, name: &str) -> Result<Option<u64>, DiskErr> {
+        self.disk.size(name)
+    }
+
+    fn read(&mut self, name: &str, at: u64, buf: &mut [u8]) -> Result<usize, DiskErr> {
+        match buf.first_mut() {
+            Some(byte) => self.disk.read(name, at, std::slice::from_mut(byte)),
+            None => Ok(0),
+        }
+    }
+}
+
+#[test]
+fn a_piece_goes_on_after_a_short_read(rt: HostRuntime) -> Result<(), Fail> {
+    let mut slow = Slow {
+        disk: MemDisk::new(rt.alloc())?,
+    };
+    slow.disk.put_file("f", b"abcdef")?;
+    for (at, count, filled) in [(1, 4, b"bcde"), (4, 2, b"ef--"), (u64::MAX, 0, b"----")] {
+        let mut buf = [b'-'; 4];
+        assert_eq!(rt;
+            read_piece(&mut slow, "f", at, &mut buf),
+            Ok(count),
+            "at {at}"
+        );
+        assert_eq!(rt; buf, *filled, "at {at}");
     }
     Ok(())
 }

@@ -1,15 +1,15 @@
 -- A batch is read just where its bytes are it.
 use Rattle.std.proofs.Common.{◌≡◌, ℕ, zero, suc, ◌+◌, ◌-◌, ◌≤◌, not, List, [], ◌∷◌, ◌++◌, length, take, drop, Result, Ok, refl, sym, ◌∙◌, ap, subst, arith}
-use Rattle.std.specs.Prelude.{◌==◌, nat_lt}
+use Rattle.std.specs.Prelude.{◌==◌, nat_lt, slice_index}
 use Rattle.std.proofs.lemmas.Bool.{eqb-true, eq-eqb, not-false, ltb-false, le-ltb, or_parts, or_from, cond-false}
 use Rattle.std.proofs.lemmas.List.{length-append, take-append-drop, length-take-le, take_at, drop_at}
 use Rattle.std.proofs.Math.Seq.{drop-drop}
 use Rattle.rk_bytes.specs.declared.model.batch.BatchFault.{BatchFault}
 use Rattle.rk_bytes.specs.Model.Numbers.{AreBytes, little_endian, in_turn}
 use Rattle.rk_bytes.specs.Model.InternalKey.{top_sequence}
-use Rattle.rk_bytes.specs.Model.WriteBatch.{Part, change, log_bytes, noop, change_count, part_of_tag, batch_part_at, batch_sequence, stated_count, parts_after_header, passes_top, Batch, batch_of, SpellsPart, SpellsParts, IsBatch}
+use Rattle.rk_bytes.specs.Model.WriteBatch.{Part, change, log_bytes, noop, change_count, part_of_tag, batch_part_at, batch_sequence, stated_count, parts_after_header, passes_top, Batch, batch_of, SpellsParts, IsBatch}
 use Rattle.rk_laws.proofs.ReadingLemmas.{both_steps, first_step, passed, bytes_after}
-use Rattle.rk_laws.proofs.BatchLemmas.{part_ok, part-spelled}
+use Rattle.rk_laws.proofs.BatchLemmas.{some_bytes, exact_part_at}
 
 change_count-more : (part : Part) (parts : List Part) → change_count (part ∷ parts) ≡ change_count parts + change_count (part ∷ [])
 change_count-more (change at r) parts = omega arith
@@ -25,43 +25,37 @@ parts_ok (suc n) len sequence place next before [] parts are few is counted e = 
 parts_ok (suc n) len sequence place next before (tag ∷ bytes) parts are few is counted e =
     both_steps (batch_part_at len sequence before (tag ∷ bytes)) _ parts e λ r read e1.
     both_steps (in_turn (batch_part_at len sequence) n (r.0 ∷ before) r.1) _ parts e1 λ more more_read e2.
-    let p = part_ok (len - length (tag ∷ bytes)) (sequence + change_count before) tag bytes r are.1 read in
-    let lens : length bytes ≡ length p.more + length r.1 = ap length p.whole ∙ length-append p.more r.1 in
-    let place_is : len - length (tag ∷ bytes) ≡ place = omega arith in
-    let spells : SpellsPart place next (tag ∷ p.more) r.0 =
-    subst (λ next. SpellsPart place next (tag ∷ p.more) r.0) (sym counted) (subst (λ place. SpellsPart place (sequence + change_count before) (tag ∷ p.more) r.0) place_is p.spells) in
+    let here : len - length (tag ∷ bytes) ≡ place = omega arith in
+    let at_place = (λ i. part_of_tag (sym here i) (counted i) tag bytes) ∙ read in
+    let f = (exact_part_at place next).reads (tag ∷ bytes) r are at_place in
+    let some = some_bytes place next f.part r.0 f.spells in
+    let lens : length (tag ∷ bytes) ≡ length f.part + length r.1 = ap length f.whole ∙ length-append f.part r.1 in
     let whole : r.0 ∷ more ≡ parts = cc in
     subst (λ parts. SpellsParts place next (tag ∷ bytes) parts) whole (
-      tag ∷ p.more,
+      f.part,
       r.1,
-      ap (λ x. tag ∷ x) p.whole,
-      spells,
-      parts_ok n len sequence (place + length (tag ∷ p.more)) (next + change_count (r.0 ∷ [])) (r.0 ∷ before) r.1 more (bytes_after bytes p.more r.1 are.1 p.whole) (omega arith) (omega arith) (omega (arith, change_count-more r.0 before)) more_read,
+      f.whole,
+      f.spells,
+      parts_ok n len sequence (place + length f.part) (next + change_count (r.0 ∷ [])) (r.0 ∷ before) r.1 more f.after (omega arith) (omega arith) (omega (arith, change_count-more r.0 before)) more_read,
     )
 
 -- the parts that are spelled are read
 parts-spelled : (n len sequence place next : ℕ) (before : List Part) (bytes : List ℕ) (parts : List Part) → length bytes ≤ n → len ≡ place + length bytes → next ≡ sequence + change_count before → SpellsParts place next bytes parts → in_turn (batch_part_at len sequence) n before bytes ≡ Ok parts
 unfolding in_turn
-parts-spelled n len sequence place next before bytes [] few is counted none = rw none (nothing n)
-  where
-    nothing : (n : ℕ) → in_turn (batch_part_at len sequence) n before [] ≡ Ok []
-    nothing zero = refl
-    nothing (suc n) = refl
-parts-spelled zero len sequence place next before bytes (part ∷ parts) few is counted (spelled, rest, whole, s, more) =
-    let p = part-spelled place next spelled rest part s in
-    absurd (omega (arith, ap length whole, length-append spelled rest, ap length p.whole))
-parts-spelled (suc n) len sequence place next before bytes (part ∷ parts) few is counted (spelled, rest, whole, s, more) =
-    let p = part-spelled place next spelled rest part s in
-    let split : bytes ≡ p.tag ∷ (p.more ++ rest) = whole ∙ ap (λ x. x ++ rest) p.whole in
-    let lens : length bytes ≡ length spelled + length rest = ap length whole ∙ length-append spelled rest in
-    let some : length spelled ≡ suc (length p.more) = ap length p.whole in
-    let place_is : len - length (p.tag ∷ (p.more ++ rest)) ≡ place = omega (arith, ap length split) in
-    let read : batch_part_at len sequence before (p.tag ∷ (p.more ++ rest)) ≡ Ok (part, rest) =
-    ap (λ place. part_of_tag place (sequence + change_count before) p.tag (p.more ++ rest)) place_is
-    ∙ ap (λ next. part_of_tag place next p.tag (p.more ++ rest)) (sym counted)
-    ∙ p.read in
-    ap (in_turn (batch_part_at len sequence) (suc n) before) split
-    ∙ first_step (batch_part_at len sequence before (p.tag ∷ (p.more ++ rest))) _ _ read
+parts-spelled zero len sequence place next before bytes [] few is counted none = rw none refl
+parts-spelled (suc n) len sequence place next before bytes [] few is counted none = rw none refl
+parts-spelled n len sequence place next before [] (part ∷ parts) few is counted (spelled, rest, whole, s, more) =
+    absurd (omega (arith, some_bytes place next spelled part s, ap length whole, length-append spelled rest))
+parts-spelled zero len sequence place next before (tag ∷ bytes) (part ∷ parts) few is counted all = absurd (omega arith)
+parts-spelled (suc n) len sequence place next before (tag ∷ bytes) (part ∷ parts) few is counted (spelled, rest, whole, s, more) =
+    let some = some_bytes place next spelled part s in
+    let lens : length (tag ∷ bytes) ≡ length spelled + length rest = ap length whole ∙ length-append spelled rest in
+    let here : len - length (tag ∷ bytes) ≡ place = omega arith in
+    let read : batch_part_at len sequence before (tag ∷ bytes) ≡ Ok (part, rest) =
+    (λ i. part_of_tag (here i) (sym counted i) tag bytes)
+    ∙ ap (λ bytes. part_of_tag place next (slice_index bytes 0) (drop 1 bytes)) whole
+    ∙ (exact_part_at place next).spelled spelled rest part s in
+    first_step (batch_part_at len sequence before (tag ∷ bytes)) _ _ read
     ∙ first_step _ _ parts (parts-spelled n len sequence (place + length spelled) (next + change_count (part ∷ [])) (part ∷ before) rest parts (omega arith) (omega arith) (omega (arith, change_count-more part before)) more)
 
 -- a header's two parts, and what follows them

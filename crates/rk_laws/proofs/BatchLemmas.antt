@@ -1,17 +1,17 @@
 -- A part of a batch is read just where it is spelled.
-use Rattle.std.proofs.Common.{◌≡◌, ◌⊎◌, ℕ, Bool, true, false, ◌||◌, cond, List, [], ◌∷◌, ◌++◌, Option, Some, None, Result, Ok, Err, refl, sym, ◌∙◌, ap, subst, append_assoc, inl, inr}
-use Rattle.std.specs.Prelude.{◌==◌}
-use Rattle.std.proofs.lemmas.Bool.{eqb-true, or_cases}
+use Rattle.std.proofs.Common.{◌≡◌, ◌⊎◌, ℕ, ◌≤◌, Bool, true, false, cond, List, [], ◌∷◌, ◌++◌, length, drop, Option, Some, None, Result, Ok, Err, refl, sym, ◌∙◌, ap, subst, inl, inr, arith}
+use Rattle.std.specs.Prelude.{◌==◌, ◌||◌, slice_index}
+use Rattle.std.proofs.lemmas.Bool.{false≢true, eqb-true, or_cases}
 use Rattle.rk_bytes.specs.declared.model.key.Kind.{Kind}
 use Rattle.rk_bytes.specs.declared.model.key.Kind.TheVariants.{Deletion, Value, Merge, SingleDeletion, RangeDeletion}
 use Rattle.rk_bytes.specs.declared.model.key.Record.{Record}
 use Rattle.rk_bytes.specs.declared.model.batch.BatchFault.{BatchFault}
 use Rattle.rk_bytes.specs.declared.model.batch.BatchFault.TheVariants.{BadRecord}
-use Rattle.rk_bytes.specs.Model.Numbers.{AreBytes, Read, IsPrefixed, varint32_at, prefixed_at, reads_or}
+use Rattle.rk_bytes.specs.Model.Numbers.{AreBytes, Read, IsPrefixed, IsVarint32, varint32_at, prefixed_at, reads_or}
 use Rattle.rk_bytes.specs.Model.InternalKey.{all_kinds}
 use Rattle.rk_bytes.specs.Model.WriteBatch.{Part, change, log_bytes, noop, plain_tag, family_tag, kind_of_tag, names_family, is_unsupported_batch_tag, family_at, value_at, change_at, log_bytes_at, part_of_tag, SpellsFamily, SpellsChangeValue, SpellsChange, SpellsPart}
-use Rattle.rk_laws.proofs.Readers.{reads_or_ok}
-use Rattle.rk_laws.proofs.ReadingLemmas.{both_steps, first_step, passed, found_passes, varint32_ok, varint32-append, prefixed_ok, prefixed-append}
+use Rattle.rk_laws.proofs.ReadingLemmas.{passed, found_passes}
+use Rattle.rk_laws.proofs.Readers.{Front, Exact, front_as, read_then, spelled_then, spelled_last, joined, exact_varint32, exact_prefixed, exact_made, Made, reads_or_ok}
 
 no_family : (kind : Kind) → names_family (plain_tag kind) ≡ false
 no_family Deletion = refl
@@ -27,81 +27,116 @@ a_family Merge = refl
 a_family SingleDeletion = refl
 a_family RangeDeletion = refl
 
--- a kind's two tags, and whether a family's id follows
-record TagOf (tag : ℕ) (kind : Kind) : Type 0 where
-  is : (tag ≡ plain_tag kind) × (names_family tag ≡ false) ⊎ (tag ≡ family_tag kind) × (names_family tag ≡ true)
+-- the tag is one of the two of a kind
+abbrev TagOf : ℕ → Kind → Type 0
+TagOf tag kind = (tag ≡ plain_tag kind) ⊎ (tag ≡ family_tag kind)
 
 tag_of : (tag : ℕ) (kind : Kind) → kind_of_tag tag ≡ Some kind → TagOf tag kind
 tag_of tag kind e =
     elim (or_cases (plain_tag kind == tag) (family_tag kind == tag) (found_passes (λ kind. plain_tag kind == tag || family_tag kind == tag) all_kinds kind e)) [
-      | inl plain ↦ let same = sym (eqb-true (plain_tag kind) tag plain) in record { is = inl (same, ap names_family same ∙ no_family kind) }
-      | inr named ↦ let same = sym (eqb-true (family_tag kind) tag named) in record { is = inr (same, ap names_family same ∙ a_family kind) }
+      | inl plain ↦ inl (sym (eqb-true (plain_tag kind) tag plain))
+      | inr named ↦ inr (sym (eqb-true (family_tag kind) tag named))
     ]
 
-family_ok : (tag : ℕ) (kind : Kind) (bytes : List ℕ) (r : ℕ × List ℕ) → AreBytes bytes → TagOf tag kind → family_at tag bytes ≡ Ok r → (part : List ℕ) × (bytes ≡ part ++ r.1) × SpellsFamily (tag ∷ part) kind r.0 × AreBytes r.1
-family_ok tag kind bytes r are t e =
-    elim t.is [
-      | inl plain ↦
-          let read : cond false (varint32_at bytes) (Ok (0, bytes)) ≡ Ok r = subst (λ b. cond b (varint32_at bytes) (Ok (0, bytes)) ≡ Ok r) plain.1 e in
+-- the family of a change of this kind, after its tag
+abbrev SpellsAfterTag : ℕ → Kind → List ℕ → ℕ → Type 0
+SpellsAfterTag tag kind part family = SpellsFamily (tag ∷ part) kind family
+
+plain_family : (tag : ℕ) (kind : Kind) → tag ≡ plain_tag kind → Exact (family_at tag) (SpellsAfterTag tag kind)
+plain_family tag kind is =
+    let none : names_family tag ≡ false = ap names_family is ∙ no_family kind in
+    record {
+      reads = λ bytes r are e.
+          let read : cond false (varint32_at bytes) (Ok (0, bytes)) ≡ Ok r = subst (λ b. cond b (varint32_at bytes) (Ok (0, bytes)) ≡ Ok r) none e in
           let same : (0, bytes) ≡ r = cc in
-          subst (λ (r : ℕ × List ℕ). (part : List ℕ) × (bytes ≡ part ++ r.1) × SpellsFamily (tag ∷ part) kind r.0 × AreBytes r.1) same ([], refl, inl (ap (λ t. t ∷ []) plain.0, refl), are)
-      | inr named ↦
-          let read : cond true (varint32_at bytes) (Ok (0, bytes)) ≡ Ok r = subst (λ b. cond b (varint32_at bytes) (Ok (0, bytes)) ≡ Ok r) named.1 e in
-          let (part, whole, is, are1) = varint32_ok bytes r are read in
-          (part, whole, inr (part, ap (λ t. t ∷ part) named.0, is), are1)
-    ]
+          subst (λ (r : ℕ × List ℕ). Front (SpellsAfterTag tag kind) bytes r) same (record { part = []; whole = refl; spells = inl (ap (λ t. t ∷ []) is, refl); after = are });
+      spelled = λ part rest family s.
+          elim s [
+            | inl plain ↦ let nothing : part ≡ [] = cc in rw (none, nothing, plain.1) refl
+            | inr named ↦ let other : tag ≡ family_tag kind = cc in absurd (false≢true (sym none ∙ (ap names_family other ∙ a_family kind)))
+          ];
+    }
 
-value_ok : (kind : Kind) (bytes : List ℕ) (r : List ℕ × List ℕ) → AreBytes bytes → value_at kind bytes ≡ Ok r → (part : List ℕ) × (bytes ≡ part ++ r.1) × SpellsChangeValue part kind r.0 × AreBytes r.1
-value_ok Deletion bytes r are e = let same : ([], bytes) ≡ r = cc in subst (λ (r : List ℕ × List ℕ). (part : List ℕ) × (bytes ≡ part ++ r.1) × SpellsChangeValue part Deletion r.0 × AreBytes r.1) same ([], refl, (refl, refl), are)
-value_ok SingleDeletion bytes r are e = let same : ([], bytes) ≡ r = cc in subst (λ (r : List ℕ × List ℕ). (part : List ℕ) × (bytes ≡ part ++ r.1) × SpellsChangeValue part SingleDeletion r.0 × AreBytes r.1) same ([], refl, (refl, refl), are)
-value_ok Value bytes r are e = prefixed_ok bytes r are e
-value_ok Merge bytes r are e = prefixed_ok bytes r are e
-value_ok RangeDeletion bytes r are e = prefixed_ok bytes r are e
+named_family : (tag : ℕ) (kind : Kind) → tag ≡ family_tag kind → Exact (family_at tag) (SpellsAfterTag tag kind)
+named_family tag kind is =
+    let some : names_family tag ≡ true = ap names_family is ∙ a_family kind in
+    record {
+      reads = λ bytes r are e.
+          let read : cond true (varint32_at bytes) (Ok (0, bytes)) ≡ Ok r = subst (λ b. cond b (varint32_at bytes) (Ok (0, bytes)) ≡ Ok r) some e in
+          front_as IsVarint32 (SpellsAfterTag tag kind) bytes r (λ part family s. inr (part, ap (λ t. t ∷ part) is, s)) (exact_varint32.reads bytes r are read);
+      spelled = λ part rest family s.
+          elim s [
+            | inl plain ↦ let other : tag ≡ plain_tag kind = cc in absurd (false≢true (sym (ap names_family other ∙ no_family kind) ∙ some))
+            | inr named ↦
+                let (id, whole, is_id) = named in
+                let same : part ≡ id = cc in
+                rw (some, same) (exact_varint32.spelled id rest family is_id)
+          ];
+    }
 
--- What is read after a tag spells the part together with the tag.
-pub record ReadPart (place sequence tag : ℕ) (bytes : List ℕ) (r : Part × List ℕ) : Type 0 where
-  pub more : List ℕ
-  pub whole : bytes ≡ more ++ r.1
-  pub spells : SpellsPart place sequence (tag ∷ more) r.0
+exact_family : (tag : ℕ) (kind : Kind) → TagOf tag kind → Exact (family_at tag) (SpellsAfterTag tag kind)
+exact_family tag kind (inl is) = plain_family tag kind is
+exact_family tag kind (inr is) = named_family tag kind is
 
-change_ok : (place sequence tag : ℕ) (kind : Kind) (bytes : List ℕ) (r : Part × List ℕ) → AreBytes bytes → TagOf tag kind → change_at place sequence tag kind bytes ≡ Ok r → ReadPart place sequence tag bytes r
+exact_no_value : Exact (λ bytes. let read : Read (List ℕ) = Ok ([], bytes) in read) (λ part value. (part ≡ []) × (value ≡ []))
+exact_no_value = record {
+  reads = λ bytes r are e.
+      let same : ([], bytes) ≡ r = cc in
+      subst (λ (r : List ℕ × List ℕ). Front (λ part value. (part ≡ []) × (value ≡ [])) bytes r) same (record { part = []; whole = refl; spells = (refl, refl); after = are });
+  spelled = λ part rest value s. rw (s.0, s.1) refl;
+}
+
+exact_value : (kind : Kind) → Exact (value_at kind) (λ part value. SpellsChangeValue part kind value)
+exact_value Deletion = exact_no_value
+exact_value SingleDeletion = exact_no_value
+exact_value Value = exact_prefixed
+exact_value Merge = exact_prefixed
+exact_value RangeDeletion = exact_prefixed
+
+-- the bytes after a tag spell the part together with it
+abbrev SpellsTagged : ℕ → ℕ → ℕ → List ℕ → Part → Type 0
+SpellsTagged place sequence tag part p = SpellsPart place sequence (tag ∷ part) p
+
+change_ok : (place sequence tag : ℕ) (kind : Kind) (bytes : List ℕ) (r : Part × List ℕ) → AreBytes bytes → TagOf tag kind → change_at place sequence tag kind bytes ≡ Ok r → Front (SpellsTagged place sequence tag) bytes r
 change_ok place sequence tag kind bytes r are t e =
-    both_steps (family_at tag bytes) _ r e λ family family_read e1.
-    both_steps (prefixed_at family.1) _ r e1 λ key key_read e2.
-    both_steps (value_at kind key.1) _ r e2 λ value value_read e3.
-    let (family_more, w1, family_is, are1) = family_ok tag kind bytes family are t family_read in
-    let (key_bytes, w2, key_is, are2) = prefixed_ok family.1 key are1 key_read in
-    let (value_bytes, w3, value_is, are3) = value_ok kind key.1 value are2 value_read in
-    let regroup : family_more ++ (key_bytes ++ (value_bytes ++ value.1)) ≡ (family_more ++ (key_bytes ++ value_bytes)) ++ value.1 = simp append_assoc in
-    let same : (change place (record { family = family.0; key = key.0; sequence = sequence; kind = kind; value = value.0 }), value.1) ≡ r = cc in
-    subst (λ (r : Part × List ℕ). ReadPart place sequence tag bytes r) same (record {
-      more = family_more ++ (key_bytes ++ value_bytes);
-      whole = w1 ∙ ap (λ x. family_more ++ x) (w2 ∙ ap (λ x. key_bytes ++ x) w3) ∙ regroup;
-      spells = (
-        refl,
-        record {
-          family_bytes = tag ∷ family_more;
-          key_bytes = key_bytes;
-          value_bytes = value_bytes;
-          spelled = refl;
-          family = family_is;
-          key = key_is;
-          value = value_is;
-          sequence_is = refl;
-        },
-      );
+    read_then (family_at tag) (SpellsAfterTag tag kind) (exact_family tag kind t) bytes _ r are e λ family a e1.
+    read_then prefixed_at IsPrefixed exact_prefixed family.1 _ r a.after e1 λ key b e2.
+    read_then (value_at kind) _ (exact_value kind) key.1 _ r b.after e2 λ value v e3.
+    let own : Record = record { family = family.0; key = key.0; sequence = sequence; kind = kind; value = value.0 } in
+    let same : (change place own, value.1) ≡ r = cc in
+    subst (λ (r : Part × List ℕ). Front (SpellsTagged place sequence tag) bytes r) same (record {
+      part = a.part ++ (b.part ++ v.part);
+      whole = joined _ _ _ a.whole (joined _ _ _ b.whole v.whole);
+      spells = (refl, record { family_bytes = tag ∷ a.part; key_bytes = b.part; value_bytes = v.part; spelled = refl; family = a.spells; key = b.spells; value = v.spells; sequence_is = refl });
+      after = v.after;
     })
 
-log_bytes_ok : (place sequence tag : ℕ) (bytes : List ℕ) (r : Part × List ℕ) → AreBytes bytes → tag ≡ 0x3 → log_bytes_at place bytes ≡ Ok r → ReadPart place sequence tag bytes r
-log_bytes_ok place sequence tag bytes r are tag_is e =
-    both_steps (prefixed_at bytes) _ r e λ slice slice_read e1.
-    let (more, whole, is, are1) = prefixed_ok bytes slice are slice_read in
-    let same : (log_bytes place slice.0, slice.1) ≡ r = cc in
-    subst (λ (r : Part × List ℕ). ReadPart place sequence tag bytes r) same (record { more = more; whole = whole; spells = (refl, more, ap (λ t. t ∷ more) tag_is, is) })
+-- the bytes of a family begin with a tag of the kind
+family_first : (bytes : List ℕ) (kind : Kind) (family : ℕ) → SpellsFamily bytes kind family → (tag : ℕ) × (id : List ℕ) × (bytes ≡ tag ∷ id) × TagOf tag kind
+family_first bytes kind family (inl plain) = (plain_tag kind, [], plain.0, inl refl)
+family_first bytes kind family (inr (id, whole, is)) = (family_tag kind, id, whole, inr refl)
 
-noop_ok : (place sequence tag : ℕ) (bytes : List ℕ) (r : Part × List ℕ) → tag ≡ 0xD → (noop place, bytes) ≡ r → ReadPart place sequence tag bytes r
-noop_ok place sequence tag bytes r tag_is same =
-    subst (λ (r : Part × List ℕ). ReadPart place sequence tag bytes r) same (record { more = []; whole = refl; spells = (refl, ap (λ t. t ∷ []) tag_is) })
+-- a change's tag, and what is read after it
+change-spelled : (place sequence tag at : ℕ) (part rest : List ℕ) (r : Record) → at ≡ place → SpellsChange sequence (tag ∷ part) r → TagOf tag r.kind × (change_at place sequence tag r.kind (part ++ rest) ≡ Ok (change at r, rest))
+change-spelled place sequence tag at part rest r place_is s =
+    let (own, id, first, t) = family_first s.family_bytes r.kind r.family s.family in
+    let whole : tag ∷ part ≡ own ∷ (id ++ (s.key_bytes ++ s.value_bytes)) = s.spelled ∙ ap (λ x. x ++ (s.key_bytes ++ s.value_bytes)) first in
+    let same : own ≡ tag = cc in
+    let after : part ≡ id ++ (s.key_bytes ++ s.value_bytes) = cc in
+    let tag_is : TagOf tag r.kind = subst (λ own. TagOf own r.kind) same t in
+    let family : SpellsAfterTag tag r.kind id r.family = subst (λ bytes. SpellsFamily bytes r.kind r.family) (first ∙ ap (λ own. own ∷ id) same) s.family in (
+      tag_is,
+      ap (λ part. change_at place sequence tag r.kind (part ++ rest)) after
+          ∙ spelled_then (family_at tag) (SpellsAfterTag tag r.kind) (exact_family tag r.kind tag_is) id _ rest _ r.family family
+          ∙ spelled_then prefixed_at IsPrefixed exact_prefixed s.key_bytes _ rest _ r.key s.key
+          ∙ spelled_last (value_at r.kind) _ (exact_value r.kind) s.value_bytes rest _ r.value s.value
+          ∙ (λ i. Ok (change (sym place_is i) (record { family = r.family; key = r.key; sequence = sym s.sequence_is i; kind = r.kind; value = r.value }), rest)),
+    )
+
+-- one of two readings
+chosen : {A F C : Type 0} (test : Bool) (x y : Result A F) (r : A) → cond test x y ≡ Ok r → (test ≡ true → x ≡ Ok r → C) → (test ≡ false → y ≡ Ok r → C) → C
+chosen true x y r e first second = first refl e
+chosen false x y r e first second = second refl e
 
 -- what is read after a change's tag, by the kind that has it
 abbrev read_by : ℕ → ℕ → ℕ → List ℕ → Option Kind → Result (Part × List ℕ) BatchFault
@@ -111,21 +146,25 @@ read_by place sequence tag bytes found =
       | None ↦ Err (BadRecord place)
     ]
 
-change_tag_ok : (place sequence tag : ℕ) (bytes : List ℕ) (r : Part × List ℕ) → AreBytes bytes → (found : Option Kind) → kind_of_tag tag ≡ found → read_by place sequence tag bytes found ≡ Ok r → ReadPart place sequence tag bytes r
-change_tag_ok place sequence tag bytes r are (Some kind) found e = change_ok place sequence tag kind bytes r are (tag_of tag kind found) (reads_or_ok (BadRecord place) _ r e)
-change_tag_ok place sequence tag bytes r are None found e = absurd cc
+read_by_ok : (place sequence tag : ℕ) (bytes : List ℕ) (r : Part × List ℕ) → AreBytes bytes → (found : Option Kind) → kind_of_tag tag ≡ found → read_by place sequence tag bytes found ≡ Ok r → Front (SpellsTagged place sequence tag) bytes r
+read_by_ok place sequence tag bytes r are (Some kind) found e = change_ok place sequence tag kind bytes r are (tag_of tag kind found) (reads_or_ok (BadRecord place) _ r e)
+read_by_ok place sequence tag bytes r are None found e = absurd cc
 
--- one of two readings
-chosen : {A F C : Type 0} (test : Bool) (x y : Result A F) (r : A) → cond test x y ≡ Ok r → (test ≡ true → x ≡ Ok r → C) → (test ≡ false → y ≡ Ok r → C) → C
-chosen true x y r e first second = first refl e
-chosen false x y r e first second = second refl e
+exact_log_bytes : (place : ℕ) → Exact (log_bytes_at place) (Made (log_bytes place) IsPrefixed)
+exact_log_bytes place = exact_made (log_bytes place) prefixed_at IsPrefixed exact_prefixed
 
-pub part_ok : (place sequence tag : ℕ) (bytes : List ℕ) (r : Part × List ℕ) → AreBytes bytes → part_of_tag place sequence tag bytes ≡ Ok r → ReadPart place sequence tag bytes r
-part_ok place sequence tag bytes r are e =
-    chosen (tag == 0x3) _ _ r e (λ is read. log_bytes_ok place sequence tag bytes r are (eqb-true tag 0x3 is) (reads_or_ok (BadRecord place) _ r read)) λ other e1.
-    chosen (tag == 0xD) _ _ r e1 (λ is read. noop_ok place sequence tag bytes r (eqb-true tag 0xD is) cc) λ other e2.
+tagged_ok : (place sequence tag : ℕ) (bytes : List ℕ) (r : Part × List ℕ) → AreBytes bytes → part_of_tag place sequence tag bytes ≡ Ok r → Front (SpellsTagged place sequence tag) bytes r
+tagged_ok place sequence tag bytes r are e =
+    chosen (tag == 0x3) _ _ r e (λ is read.
+    front_as (Made (log_bytes place) IsPrefixed) (SpellsTagged place sequence tag) bytes r
+    (λ part p s. subst (λ p. SpellsTagged place sequence tag part p) s.is (refl, part, ap (λ tag. tag ∷ part) (eqb-true tag 0x3 is), s.spells))
+    ((exact_log_bytes place).reads bytes r are (reads_or_ok (BadRecord place) _ r read))) λ other e1.
+    chosen (tag == 0xD) _ _ r e1 (λ is read.
+    let same : (noop place, bytes) ≡ r = cc in
+    subst (λ (r : Part × List ℕ). Front (SpellsTagged place sequence tag) bytes r) same
+    (record { part = []; whole = refl; spells = (refl, ap (λ tag. tag ∷ []) (eqb-true tag 0xD is)); after = are })) λ other e2.
     let supported = passed (is_unsupported_batch_tag tag) _ _ r e2 in
-    change_tag_ok place sequence tag bytes r are (kind_of_tag tag) refl supported.1
+    read_by_ok place sequence tag bytes r are (kind_of_tag tag) refl supported.1
 
 plain_change : (place sequence : ℕ) (kind : Kind) (bytes : List ℕ) → part_of_tag place sequence (plain_tag kind) bytes ≡ reads_or (BadRecord place) (change_at place sequence (plain_tag kind) kind bytes)
 plain_change place sequence Deletion bytes = refl
@@ -134,88 +173,52 @@ plain_change place sequence Merge bytes = refl
 plain_change place sequence SingleDeletion bytes = refl
 plain_change place sequence RangeDeletion bytes = refl
 
-family_change : (place sequence : ℕ) (kind : Kind) (bytes : List ℕ) → part_of_tag place sequence (family_tag kind) bytes ≡ reads_or (BadRecord place) (change_at place sequence (family_tag kind) kind bytes)
-family_change place sequence Deletion bytes = refl
-family_change place sequence Value bytes = refl
-family_change place sequence Merge bytes = refl
-family_change place sequence SingleDeletion bytes = refl
-family_change place sequence RangeDeletion bytes = refl
+named_change : (place sequence : ℕ) (kind : Kind) (bytes : List ℕ) → part_of_tag place sequence (family_tag kind) bytes ≡ reads_or (BadRecord place) (change_at place sequence (family_tag kind) kind bytes)
+named_change place sequence Deletion bytes = refl
+named_change place sequence Value bytes = refl
+named_change place sequence Merge bytes = refl
+named_change place sequence SingleDeletion bytes = refl
+named_change place sequence RangeDeletion bytes = refl
 
--- A family's bytes are a tag and what is read after it.
-record TagAndFamily (place sequence : ℕ) (bytes rest : List ℕ) (kind : Kind) (family : ℕ) : Type 0 where
-  tag : ℕ
-  more : List ℕ
-  whole : bytes ≡ tag ∷ more
-  family_read : family_at tag (more ++ rest) ≡ Ok (family, rest)
-  change_read : (after : List ℕ) → part_of_tag place sequence tag after ≡ reads_or (BadRecord place) (change_at place sequence tag kind after)
+change_read : (place sequence tag : ℕ) (kind : Kind) (bytes : List ℕ) → TagOf tag kind → part_of_tag place sequence tag bytes ≡ reads_or (BadRecord place) (change_at place sequence tag kind bytes)
+change_read place sequence tag kind bytes (inl is) =
+    subst (λ tag. part_of_tag place sequence tag bytes ≡ reads_or (BadRecord place) (change_at place sequence tag kind bytes)) (sym is) (plain_change place sequence kind bytes)
+change_read place sequence tag kind bytes (inr is) =
+    subst (λ tag. part_of_tag place sequence tag bytes ≡ reads_or (BadRecord place) (change_at place sequence tag kind bytes)) (sym is) (named_change place sequence kind bytes)
 
-tag_and_family : (place sequence : ℕ) (bytes rest : List ℕ) (kind : Kind) (family : ℕ) → SpellsFamily bytes kind family → TagAndFamily place sequence bytes rest kind family
-tag_and_family place sequence bytes rest kind family (inl plain) =
-    record {
-      tag = plain_tag kind;
-      more = [];
-      whole = plain.0;
-      family_read = rw (no_family kind, plain.1);
-      change_read = plain_change place sequence kind;
-    }
-tag_and_family place sequence bytes rest kind family (inr (id, whole, is)) =
-    record {
-      tag = family_tag kind;
-      more = id;
-      whole = whole;
-      family_read = rw (a_family kind) (varint32-append id rest family is);
-      change_read = family_change place sequence kind;
-    }
+tagged-spelled : (place sequence tag : ℕ) (part rest : List ℕ) (p : Part) → SpellsTagged place sequence tag part p → part_of_tag place sequence tag (part ++ rest) ≡ Ok (p, rest)
+tagged-spelled place sequence tag part rest (change at r) (place_is, s) =
+    let (t, read) = change-spelled place sequence tag at part rest r place_is s in
+    change_read place sequence tag r.kind (part ++ rest) t ∙ ap (reads_or (BadRecord place)) read
+tagged-spelled place sequence tag part rest (log_bytes at slice) (place_is, slice_bytes, whole, is) =
+    let same : tag ≡ 0x3 = cc in
+    let after : part ≡ slice_bytes = cc in
+    let made : Made (log_bytes place) IsPrefixed part (log_bytes at slice) = record { of = slice; is = ap (λ place. log_bytes place slice) (sym place_is); spells = subst (λ bytes. IsPrefixed bytes slice) (sym after) is } in
+    rw same (ap (reads_or (BadRecord place)) ((exact_log_bytes place).spelled part rest (log_bytes at slice) made))
+tagged-spelled place sequence tag part rest (noop at) (place_is, whole) =
+    let same : tag ≡ 0xD = cc in
+    let after : part ≡ [] = cc in
+    rw (same, after, place_is) refl
 
-value-append : (kind : Kind) (part rest value : List ℕ) → SpellsChangeValue part kind value → value_at kind (part ++ rest) ≡ Ok (value, rest)
-value-append Deletion part rest value s = rw (s.0, s.1)
-value-append SingleDeletion part rest value s = rw (s.0, s.1)
-value-append Value part rest value s = prefixed-append part rest value s
-value-append Merge part rest value s = prefixed-append part rest value s
-value-append RangeDeletion part rest value s = prefixed-append part rest value s
+-- the bytes of a part begin with its tag
+pub some_bytes : (place sequence : ℕ) (part : List ℕ) (p : Part) → SpellsPart place sequence part p → 1 ≤ length part
+some_bytes place sequence (tag ∷ part) p s = omega arith
+some_bytes place sequence [] (change at r) (place_is, s) =
+    let (own, id, first, t) = family_first s.family_bytes r.kind r.family s.family in
+    let whole : [] ≡ own ∷ (id ++ (s.key_bytes ++ s.value_bytes)) = s.spelled ∙ ap (λ x. x ++ (s.key_bytes ++ s.value_bytes)) first in
+    absurd cc
+some_bytes place sequence [] (log_bytes at slice) (place_is, slice_bytes, whole, is) = absurd cc
+some_bytes place sequence [] (noop at) (place_is, whole) = absurd cc
 
--- A part's bytes are a tag and what is read after it.
-pub record SpelledPart (place sequence : ℕ) (bytes rest : List ℕ) (part : Part) : Type 0 where
-  pub tag : ℕ
-  pub more : List ℕ
-  pub whole : bytes ≡ tag ∷ more
-  pub read : part_of_tag place sequence tag (more ++ rest) ≡ Ok (part, rest)
+pub exact_part_at : (place sequence : ℕ) → Exact (λ bytes. part_of_tag place sequence (slice_index bytes 0) (drop 1 bytes)) (SpellsPart place sequence)
+exact_part_at place sequence = record { reads = ok; spelled = back }
+  where
+    ok : (bytes : List ℕ) (r : Part × List ℕ) → AreBytes bytes → part_of_tag place sequence (slice_index bytes 0) (drop 1 bytes) ≡ Ok r → Front (SpellsPart place sequence) bytes r
+    ok [] r are e = absurd cc
+    ok (tag ∷ bytes) r are e =
+        let f = tagged_ok place sequence tag bytes r are.1 e in
+        record { part = tag ∷ f.part; whole = ap (λ bytes. tag ∷ bytes) f.whole; spells = f.spells; after = f.after }
 
--- a change with a place and a sequence number that are its own
-with_own : (place sequence at : ℕ) (r : Record) → at ≡ place → r.sequence ≡ sequence → change place (record { family = r.family; key = r.key; sequence = sequence; kind = r.kind; value = r.value }) ≡ change at r
-with_own place sequence at r place_is sequence_is =
-    ap (λ (p : ℕ). change p (record { family = r.family; key = r.key; sequence = sequence; kind = r.kind; value = r.value })) (sym place_is)
-    ∙ ap (λ (n : ℕ). change at (record { family = r.family; key = r.key; sequence = n; kind = r.kind; value = r.value })) (sym sequence_is)
-
-change-spelled : (place sequence at : ℕ) (bytes rest : List ℕ) (r : Record) → at ≡ place → SpellsChange sequence bytes r → SpelledPart place sequence bytes rest (change at r)
-change-spelled place sequence at bytes rest r place_is s =
-    let after : List ℕ = s.key_bytes ++ (s.value_bytes ++ rest) in
-    let t = tag_and_family place sequence s.family_bytes after r.kind r.family s.family in
-    let regroup : (t.more ++ (s.key_bytes ++ s.value_bytes)) ++ rest ≡ t.more ++ after = simp append_assoc in
-    record {
-      tag = t.tag;
-      more = t.more ++ (s.key_bytes ++ s.value_bytes);
-      whole = s.spelled ∙ ap (λ x. x ++ (s.key_bytes ++ s.value_bytes)) t.whole;
-      read =
-          ap (part_of_tag place sequence t.tag) regroup
-          ∙ t.change_read (t.more ++ after)
-          ∙ ap (reads_or (BadRecord place)) (
-          first_step (family_at t.tag (t.more ++ after)) _ _ t.family_read
-          ∙ first_step _ _ _ (prefixed-append s.key_bytes (s.value_bytes ++ rest) r.key s.key)
-          ∙ first_step _ _ _ (value-append r.kind s.value_bytes rest r.value s.value)
-          ∙ ap (λ (part : Part). let read : Read Part = Ok (part, rest) in read) (with_own place sequence at r place_is s.sequence_is));
-    }
-
-log_bytes-spelled : (place sequence at : ℕ) (bytes spelled rest slice : List ℕ) → at ≡ place → bytes ≡ 0x3 ∷ spelled → IsPrefixed spelled slice → SpelledPart place sequence bytes rest (log_bytes at slice)
-log_bytes-spelled place sequence at bytes spelled rest slice place_is whole is =
-    record {
-      tag = 0x3;
-      more = spelled;
-      whole = whole;
-      read = ap (reads_or (BadRecord place)) (first_step (prefixed_at (spelled ++ rest)) _ _ (prefixed-append spelled rest slice is)) ∙ rw place_is;
-    }
-
-pub part-spelled : (place sequence : ℕ) (bytes rest : List ℕ) (part : Part) → SpellsPart place sequence bytes part → SpelledPart place sequence bytes rest part
-part-spelled place sequence bytes rest (change at r) (place_is, s) = change-spelled place sequence at bytes rest r place_is s
-part-spelled place sequence bytes rest (log_bytes at slice) (place_is, spelled, whole, is) = log_bytes-spelled place sequence at bytes spelled rest slice place_is whole is
-part-spelled place sequence bytes rest (noop at) (place_is, whole) = record { tag = 0xD; more = []; whole = whole; read = rw place_is }
+    back : (part rest : List ℕ) (p : Part) → SpellsPart place sequence part p → part_of_tag place sequence (slice_index (part ++ rest) 0) (drop 1 (part ++ rest)) ≡ Ok (p, rest)
+    back [] rest p s = absurd (omega (arith, some_bytes place sequence [] p s))
+    back (tag ∷ part) rest p s = tagged-spelled place sequence tag part rest p s

@@ -1,33 +1,14 @@
 -- The greatest points that qualify: they are there, and lowering what can't be kept finds them.
 use Rattle.std.proofs.Common.{◌≡◌, ℕ, zero, suc, ◌+◌, ◌-◌, ◌*◌, ◌<◌, ◌≤◌, Bool, true, false, not, ◌&&◌, ◌⊎◌, cond, List, [], ◌∷◌, length, map, refl, sym, ◌∙◌, ap, arith, inl, inr}
-use Rattle.std.specs.Prelude.{nat_lt, nat_le, flat_map, ◌==◌}
+use Rattle.std.specs.Prelude.{nat_lt, nat_le, flat_map, take, zip, ◌==◌}
 use Rattle.std.specs.List.{AllByRecursion, list_any, list_all}
 use Rattle.std.proofs.lemmas.Bool.{ltb-true, lt-ltb, ltb-false, leb-true, leb-false, not-true, not-false, false≢true, false_from_ne_true, and_parts, and_from, and_cases, or_parts, or_cases, or_left, or_right}
 use Rattle.rk_bytes.specs.declared.model.manifest.FileMeta.{FileMeta}
 use Rattle.rk_bytes.specs.declared.model.manifest.FamilyState.{FamilyState}
 use Rattle.rk_bytes.specs.declared.model.view.Point.{Point}
 use Rattle.rk_bytes.specs.Model.Manifest.{ManifestUnit, first_version, version_after}
-use Rattle.rk_bytes.specs.Model.BestEfforts.{last_families, all_pass, group_places, is_tied, IsVector, StandTogether, Qualifies, AtMost, IsGreatest, stands_before, cannot_stay, lowered, lowered_until, all_at, best_points}
-
--- elements of which none passes a test, and of which one does
-none_passes : {A : Type 0} (test : A → Bool) (xs : List A) → list_any test xs ≡ false → AllByRecursion (λ x. test x ≡ false) xs
-none_passes test [] e = tt
-none_passes test (x ∷ xs) e = let (first, more) = or_parts (test x) (list_any test xs) e in (first, none_passes test xs more)
-
-one_passes : {A : Type 0} (test : A → Bool) (P : A → Type 0) (xs : List A) → list_any test xs ≡ true → AllByRecursion P xs → (x : A) × (test x ≡ true) × P x
-one_passes test P [] e all = absurd (false≢true e)
-one_passes test P (x ∷ xs) e all = elim (or_cases (test x) (list_any test xs) e) [
-  | inl first ↦ (x, first, all.0)
-  | inr more ↦ one_passes test P xs more all.1
-]
-
-each_so : {A : Type 0} (P Q : A → Type 0) (xs : List A) → ((x : A) → P x → Q x) → AllByRecursion P xs → AllByRecursion Q xs
-each_so P Q [] so all = tt
-each_so P Q (x ∷ xs) so all = (so x all.0, each_so P Q xs so all.1)
-
-each_is : {A : Type 0} (P : A → Type 0) (xs : List A) → ((x : A) → P x) → AllByRecursion P xs
-each_is P [] so = tt
-each_is P (x ∷ xs) so = (so x, each_is P xs so)
+use Rattle.rk_laws.proofs.EachElement.{none_passes, one_passes, each_so, each_is}
+use Rattle.rk_bytes.specs.Model.BestEfforts.{last_families, all_pass, added_files, answer_for, answers_pass, group_places, is_tied, IsVector, StandTogether, Qualifies, AtMost, IsGreatest, stands_before, cannot_stay, lowered, lowered_until, all_at, best_points}
 
 -- Points that are at most each other are the same.
 same_points : (a b : List Point) → AtMost a b → AtMost b a → a ≡ b
@@ -256,6 +237,9 @@ all_pass_at_zero units is_whole id = by (0 == id)
     by : (told : Bool) → list_all is_whole (flat_map (λ live. live.files) (cond told first_version.families [])) ≡ true
     by true = refl
     by false = refl
+
+pub answers_pass_at_zero : (units : List ManifestUnit) (answers : List Bool) (id : ℕ) → answers_pass answers units id 0 ≡ true
+answers_pass_at_zero units answers id = all_pass_at_zero units (λ file. answer_for (zip (added_files (take 0 units)) answers) file.number) id
 
 pub best_points-greatest : (units : List ManifestUnit) (whole_at : ℕ → ℕ → Bool) → ((id : ℕ) → whole_at id 0 ≡ true) → IsGreatest units whole_at (best_points units whole_at)
 best_points-greatest units whole_at zeros =

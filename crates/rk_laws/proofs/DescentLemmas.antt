@@ -5,7 +5,6 @@ use Rattle.std.specs.FinMap.{get, values}
 use Rattle.std.proofs.lemmas.Bool.{false≢true}
 use Rattle.rk_bytes.specs.declared.model.name.FileName.TheVariants.{Lost}
 use Rattle.rk_bytes.specs.declared.model.open.OpenErr.{OpenErr}
-use Rattle.rk_bytes.specs.declared.model.wal.Mode.{Mode}
 use Rattle.std.specs.List.{AllByRecursion}
 use Rattle.rk_bytes.specs.Model.DiskImages.{Directory, Names, NameChange, DiskState, after_changes, IsImage, IsAtRest, is_synced, unsynced, resting}
 use Rattle.rk_laws.proofs.DiskLaw.{resting-IsAtRest, image_of_resting}
@@ -13,9 +12,8 @@ use Rattle.rk_bytes.specs.Model.TableStatus.{is_range_deletion}
 use Rattle.rk_bytes.specs.Model.FileNames.{name_of, lost_name}
 use Rattle.rk_bytes.specs.Model.KeyView.{State, tomb_of, is_covered}
 use Rattle.rk_bytes.specs.Model.Records.{RecordMap}
-use Rattle.rk_bytes.specs.Model.BestEfforts.{best_directory}
 use Rattle.rk_bytes.specs.Model.Salvage.{refuses_file, salvage_families, salvage_records, IsSalvage}
-use Rattle.rk_bytes.specs.Model.Descent.{state_in, opened_state, best_state, GivesSalvage, may_go, may_move, HasMoved, Descends, is_temporary, IsReady}
+use Rattle.rk_bytes.specs.Model.Descent.{state_in, GivesSalvage, may_go, may_move, OpensAlike, BestAlike, HasMoved, IsStillThere, Descends, is_temporary, IsReady}
 
 pub Descends-itself : (d : Directory) → refuses_file d ≡ false → Descends d d
 Descends-itself d readable = record {
@@ -42,16 +40,12 @@ GivesSalvage-of x d descends gives = (gives.0, gives.1, IsSalvage-of x d descend
 GivesSalvage-as : {answer other : Result State OpenErr} (d : Directory) → answer ≡ other → GivesSalvage other d → GivesSalvage answer d
 GivesSalvage-as d same gives = (gives.0, same ∙ gives.1, gives.2)
 
-opens-through : (d x y : Directory) → Descends x d
-    → ((mode : Mode) → opened_state y mode ≡ opened_state x mode) ⊎ ((mode : Mode) → GivesSalvage (opened_state y mode) x)
-    → ((mode : Mode) → opened_state x mode ≡ opened_state d mode) ⊎ ((mode : Mode) → GivesSalvage (opened_state x mode) d)
-    → ((mode : Mode) → opened_state y mode ≡ opened_state d mode) ⊎ ((mode : Mode) → GivesSalvage (opened_state y mode) d)
+opens-through : (d x y : Directory) → Descends x d → OpensAlike y x → OpensAlike x d → OpensAlike y d
 opens-through d x y descends (inl same) (inl first) = inl (λ mode. same mode ∙ first mode)
 opens-through d x y descends (inl same) (inr gives) = inr (λ mode. GivesSalvage-as d (same mode) (gives mode))
 opens-through d x y descends (inr gives) _ = inr (λ mode. GivesSalvage-of x d descends (gives mode))
 
-best-through : (d x y : Directory) → Descends x d → (best_directory y ≡ best_directory x) ⊎ GivesSalvage (best_state y) x
-    → (best_directory x ≡ best_directory d) ⊎ GivesSalvage (best_state x) d → (best_directory y ≡ best_directory d) ⊎ GivesSalvage (best_state y) d
+best-through : (d x y : Directory) → Descends x d → BestAlike y x → BestAlike x d → BestAlike y d
 best-through d x y descends (inl same) (inl first) = inl (same ∙ first)
 best-through d x y descends (inl same) (inr gives) = inr (GivesSalvage-as d (ap (state_in (λ best. best.state)) same) gives)
 best-through d x y descends (inr gives) _ = inr (GivesSalvage-of x d descends gives)
@@ -83,14 +77,14 @@ free_before d x name k descends free = by (get d (lost_name name k)) refl
     by None is = is
     by (Some bytes) is = let kept = kept_lost d x name k bytes descends is in cc
 
-files-through : (d x y : Directory) → Descends x d → Descends y x → (name bytes : List ℕ) → get d name ≡ Some bytes → may_go (name_of name) ≡ false → (get y name ≡ Some bytes) ⊎ HasMoved y d name bytes
+files-through : (d x y : Directory) → Descends x d → Descends y x → (name bytes : List ℕ) → get d name ≡ Some bytes → may_go (name_of name) ≡ false → IsStillThere y d name bytes
 files-through d x y descends later name bytes there stays = by (descends.files name bytes there stays)
   where
-    kept : (get y name ≡ Some bytes) ⊎ HasMoved y x name bytes → (get y name ≡ Some bytes) ⊎ HasMoved y d name bytes
+    kept : IsStillThere y x name bytes → IsStillThere y d name bytes
     kept (inl is) = inl is
     kept (inr moved) = inr (record { may = moved.may; tried = moved.tried; free = free_before d x name moved.tried descends moved.free; is = moved.is })
 
-    by : (get x name ≡ Some bytes) ⊎ HasMoved x d name bytes → (get y name ≡ Some bytes) ⊎ HasMoved y d name bytes
+    by : IsStillThere x d name bytes → IsStillThere y d name bytes
     by (inl is) = kept (later.files name bytes is stays)
     by (inr moved) = inr (record { may = moved.may; tried = moved.tried; free = moved.free; is = kept_lost x y name moved.tried bytes later moved.is })
 

@@ -1,6 +1,6 @@
 -- Of the names below `lost/` that a file may be moved to, one is free.
 use Rattle.std.proofs.Common.{◌≡◌, ◌⊎◌, inl, inr, ℕ, zero, suc, ◌+◌, ◌^◌, ◌<◌, ◌≤◌, Bool, true, false, not, ◌||◌, List, [], ◌∷◌, ◌++◌, length, cond, refl, sym, ap, subst, ◌∙◌, arith, append_assoc, length-append}
-use Rattle.std.specs.Prelude.{Contains, Option, Some, None, unwrap_or, bytes_eq}
+use Rattle.std.specs.Prelude.{Contains, Some, None, unwrap_or, bytes_eq}
 use Rattle.std.specs.List.{AllByRecursion, IsDistinct, list_any, find}
 use Rattle.std.proofs.lemmas.Map.Keys.{IsDistinct-cons}
 use Rattle.std.specs.Fmt.{decimal}
@@ -59,7 +59,8 @@ none_distinct = IsDistinct-from_AllPairs bytes_eq-Decides [] (λ i j d before wi
 distinct_names : (name : List ℕ) (tried more : ℕ) → tried + more < 2 ^ 64 → IsDistinct bytes_eq (lost_names name tried more)
 distinct_names name tried zero fit = IsDistinct-cons bytes_eq (lost_name name tried) [] tt none_distinct
 distinct_names name tried (suc more) fit =
-    IsDistinct-cons bytes_eq (lost_name name tried) (lost_names name (suc tried) more) (apart_from_later name tried (suc tried) more (omega arith) (omega arith)) (distinct_names name (suc tried) more (omega arith))
+    let apart = apart_from_later name tried (suc tried) more (omega arith) (omega arith) in
+    IsDistinct-cons bytes_eq (lost_name name tried) (lost_names name (suc tried) more) apart (distinct_names name (suc tried) more (omega arith))
 
 count_names : (name : List ℕ) (tried more : ℕ) → length (lost_names name tried more) ≡ suc more
 count_names name tried zero = refl
@@ -83,8 +84,9 @@ found_try name q tried (suc more) e = by (bytes_eq q (lost_name name tried)) (by
 some_free : (name : List ℕ) (taken : List (List ℕ)) → length taken < 2 ^ 64 → ¬ ((k : ℕ) → k ≤ length taken → list_any (bytes_eq (lost_name name k)) taken ≡ true)
 some_free name taken fit all =
     let within : (q : List ℕ) → list_any (bytes_eq q) (lost_names name 0 (length taken)) ≡ true → list_any (bytes_eq q) taken ≡ true =
-        (λ q e. let at = found_try name q 0 (length taken) e in ap (λ q. list_any (bytes_eq q) taken) at.2 ∙ all at.0 (omega (arith, at.1))) in
-    let few : length (lost_names name 0 (length taken)) ≤ length taken = length-le_from_is_member nat_list_eq_equiv (lost_names name 0 (length taken)) taken (distinct_names name 0 (length taken) (omega arith)) within in
+    (λ q e. let at = found_try name q 0 (length taken) e in ap (λ q. list_any (bytes_eq q) taken) at.2 ∙ all at.0 (omega (arith, at.1))) in
+    let names = lost_names name 0 (length taken) in
+    let few : length names ≤ length taken = length-le_from_is_member nat_list_eq_equiv names taken (distinct_names name 0 (length taken) (omega arith)) within in
     absurd (omega (arith, few, count_names name 0 (length taken)))
 
 same_names : (a b : List ℕ) → bytes_eq a b ≡ true → a ≡ b
@@ -99,11 +101,25 @@ is_free taken a e there = false≢true (sym e ∙ list_any-from_Contains nat_lis
 up_to : (P : ℕ → Type 0) (n : ℕ) → ((k : ℕ) → k < n → P k) → P n → (k : ℕ) → k < suc n → P k
 up_to P n below at k within = below_more P n below at k (omega arith)
 
+-- the name of a try is taken
 abbrev IsTaken : List ℕ → List (List ℕ) → ℕ → Type 0
 IsTaken name taken k = list_any (bytes_eq (lost_name name k)) taken ≡ true
 
+-- the names of all tries up to one are taken
+abbrev AreTaken : List ℕ → List (List ℕ) → ℕ → Type 0
+AreTaken name taken last = (k : ℕ) → k ≤ last → IsTaken name taken k
+
+-- the first of these names that isn't taken
+abbrev first_free_of : List (List ℕ) → List (List ℕ) → List ℕ → List ℕ
+first_free_of taken names d = unwrap_or (find (λ lost. not (list_any (bytes_eq lost) taken)) names) d
+
+-- a name is the free one, or all up to a try are taken
+abbrev Settled : List ℕ → List (List ℕ) → List ℕ → ℕ → Type 0
+Settled name taken free last = IsFreeLostName name taken free ⊎ AreTaken name taken last
+
 -- where the names before one are taken, and it isn't, it is the free one
-free_at : (name : List ℕ) (taken : List (List ℕ)) (tried : ℕ) → ((k : ℕ) → k < tried → IsTaken name taken k) → list_any (bytes_eq (lost_name name tried)) taken ≡ false → IsFreeLostName name taken (lost_name name tried)
+free_at : (name : List ℕ) (taken : List (List ℕ)) (tried : ℕ) → ((k : ℕ) → k < tried → IsTaken name taken k)
+    → list_any (bytes_eq (lost_name name tried)) taken ≡ false → IsFreeLostName name taken (lost_name name tried)
 free_at name taken tried before free = record {
   tried = tried;
   is = refl;
@@ -113,26 +129,26 @@ free_at name taken tried before free = record {
 
 -- the first of the names that is free, unless all of them are taken
 first_free : (name : List ℕ) (taken : List (List ℕ)) (d : List ℕ) (tried more : ℕ) → ((k : ℕ) → k < tried → IsTaken name taken k)
-    → IsFreeLostName name taken (unwrap_or (find (λ lost. not (list_any (bytes_eq lost) taken)) (lost_names name tried more)) d) ⊎ ((k : ℕ) → k ≤ tried + more → IsTaken name taken k)
+    → Settled name taken (first_free_of taken (lost_names name tried more) d) (tried + more)
 first_free name taken d tried zero before = by (list_any (bytes_eq (lost_name name tried)) taken) refl
   where
-    by : (t : Bool) → list_any (bytes_eq (lost_name name tried)) taken ≡ t → IsFreeLostName name taken (unwrap_or (cond (not t) (Some (lost_name name tried)) None) d) ⊎ ((k : ℕ) → k ≤ tried + zero → IsTaken name taken k)
+    by : (t : Bool) → list_any (bytes_eq (lost_name name tried)) taken ≡ t
+        → Settled name taken (unwrap_or (cond (not t) (Some (lost_name name tried)) None) d) (tried + zero)
     by true is = inr (λ k within. up_to (IsTaken name taken) tried before is k (omega arith))
     by false is = inl (free_at name taken tried before is)
-first_free name taken d tried (suc more) before = by (list_any (bytes_eq (lost_name name tried)) taken) refl (λ before. first_free name taken d (suc tried) more before)
+first_free name taken d tried (suc more) before =
+    by (list_any (bytes_eq (lost_name name tried)) taken) refl (λ before. first_free name taken d (suc tried) more before)
   where
-    moved : ((k : ℕ) → k ≤ suc tried + more → IsTaken name taken k) → (k : ℕ) → k ≤ tried + suc more → IsTaken name taken k
-    moved all k within = all k (omega arith)
-
-    later : IsFreeLostName name taken (unwrap_or (find (λ lost. not (list_any (bytes_eq lost) taken)) (lost_names name (suc tried) more)) d) ⊎ ((k : ℕ) → k ≤ suc tried + more → IsTaken name taken k)
-        → IsFreeLostName name taken (unwrap_or (find (λ lost. not (list_any (bytes_eq lost) taken)) (lost_names name (suc tried) more)) d) ⊎ ((k : ℕ) → k ≤ tried + suc more → IsTaken name taken k)
+    later : Settled name taken (first_free_of taken (lost_names name (suc tried) more) d) (suc tried + more)
+        → Settled name taken (first_free_of taken (lost_names name (suc tried) more) d) (tried + suc more)
     later (inl free) = inl free
-    later (inr all) = inr (moved all)
+    later (inr all) = inr (λ k within. all k (omega arith))
 
     by : (t : Bool) → list_any (bytes_eq (lost_name name tried)) taken ≡ t
-        → (((k : ℕ) → k < suc tried → IsTaken name taken k)
-            → IsFreeLostName name taken (unwrap_or (find (λ lost. not (list_any (bytes_eq lost) taken)) (lost_names name (suc tried) more)) d) ⊎ ((k : ℕ) → k ≤ suc tried + more → IsTaken name taken k))
-        → IsFreeLostName name taken (unwrap_or (cond (not t) (Some (lost_name name tried)) (find (λ lost. not (list_any (bytes_eq lost) taken)) (lost_names name (suc tried) more))) d) ⊎ ((k : ℕ) → k ≤ tried + suc more → IsTaken name taken k)
+        → (((k : ℕ) → k < suc tried → IsTaken name taken k) → Settled name taken (first_free_of taken (lost_names name (suc tried) more) d) (suc tried + more))
+        → Settled name taken
+        (unwrap_or (cond (not t) (Some (lost_name name tried)) (find (λ lost. not (list_any (bytes_eq lost) taken)) (lost_names name (suc tried) more))) d)
+        (tried + suc more)
     by true is go_on = later (go_on (up_to (IsTaken name taken) tried before is))
     by false is go_on = inl (free_at name taken tried before is)
 
@@ -140,8 +156,8 @@ pub free_lost_name-IsFreeLostName : (name : List ℕ) (taken : List (List ℕ)) 
 unfolding free_lost_name
 free_lost_name-IsFreeLostName name taken fit = by (first_free name taken (lost_name name 0) 0 (length taken) (λ k before. absurd (omega arith)))
   where
-    by : IsFreeLostName name taken (unwrap_or (find (λ lost. not (list_any (bytes_eq lost) taken)) (lost_names name 0 (length taken))) (lost_name name 0)) ⊎ ((k : ℕ) → k ≤ 0 + length taken → IsTaken name taken k)
-        → IsFreeLostName name taken (unwrap_or (find (λ lost. not (list_any (bytes_eq lost) taken)) (lost_names name 0 (length taken))) (lost_name name 0))
+    by : Settled name taken (first_free_of taken (lost_names name 0 (length taken)) (lost_name name 0)) (0 + length taken)
+        → IsFreeLostName name taken (first_free_of taken (lost_names name 0 (length taken)) (lost_name name 0))
     by (inl free) = free
     by (inr all) = absurd (some_free name taken fit (λ k within. all k (omega arith)))
 

@@ -1,5 +1,5 @@
 -- Readers that give just what is spelled, and how they are put together.
-use Rattle.std.proofs.Common.{◌≡◌, ℕ, Bool, true, false, cond, List, ◌++◌, length, Result, Ok, Err, refl, sym, ◌∙◌, ap, subst, append_assoc}
+use Rattle.std.proofs.Common.{◌≡◌, ◌↔◌, ℕ, Bool, true, false, cond, List, ◌++◌, length, Result, Ok, Err, refl, sym, ◌∙◌, ap, subst, append_assoc}
 use Rattle.std.proofs.lemmas.Bool.{cond-true, cond-false}
 use Rattle.rk_bytes.specs.Model.Numbers.{AreBytes, Read, ◌>>=◌, IsVarint32, IsVarint64, IsPrefixed, part_of, varint32_at, varint64_at, prefixed_at, reads_or}
 use Rattle.rk_bytes.specs.Model.BlockEntries.{with_fault}
@@ -16,6 +16,13 @@ pub record Front {A : Type 0} (Spells : List ℕ → A → Type 0) (bytes : List
 pub record Exact {A F : Type 0} (read : List ℕ → Result (A × List ℕ) F) (Spells : List ℕ → A → Type 0) : Type 0 where
   pub reads : (bytes : List ℕ) (r : A × List ℕ) → AreBytes bytes → read bytes ≡ Ok r → Front Spells bytes r
   pub spelled : (part rest : List ℕ) (x : A) → Spells part x → read (part ++ rest) ≡ Ok (x, rest)
+
+-- a value is read at the front of bytes just where they begin with a spelling of it
+pub read-iff-spelled : {A F : Type 0} (read : List ℕ → Result (A × List ℕ) F) (S : List ℕ → A → Type 0) → Exact read S → (bytes rest : List ℕ) (a : A) → AreBytes bytes → (read bytes ≡ Ok (a, rest)) ↔ ((part : List ℕ) × S part a × (bytes ≡ part ++ rest))
+read-iff-spelled read S x bytes rest a are = (
+  λ e. let f = x.reads bytes (a, rest) are e in (f.part, f.spells, f.whole),
+  λ spelled. let (part, is, whole) = spelled in ap read whole ∙ x.spelled part rest a is,
+)
 
 -- a step of a reading: what was read, what spells it, and how the reading goes on
 pub read_then : {A B F C : Type 0} (read : List ℕ → Result (A × List ℕ) F) (S : List ℕ → A → Type 0) → Exact read S → (bytes : List ℕ) (f : A × List ℕ → Result B F) (b : B) → AreBytes bytes → (read bytes >>= f) ≡ Ok b

@@ -1,19 +1,18 @@
 -- Logs without damage add the same in every mode.
-use Rattle.std.proofs.Common.{◌≡◌, ℕ, ◌+◌, Bool, true, false, not, List, [], ◌∷◌, ◌++◌, map, cond, refl, sym, ap, subst, ◌∙◌, append_assoc}
+use Rattle.std.proofs.Common.{◌≡◌, ℕ, ◌+◌, Bool, true, false, not, List, [], ◌∷◌, ◌++◌, map, cond, refl, sym, ap, ◌∙◌, append_assoc}
 use Rattle.std.proofs.lemmas.List.{append-nil, map-append}
 use Rattle.std.proofs.lemmas.List.Sums.{take_while-cons}
-use Rattle.std.specs.Prelude.{Option, Some, None, Result, Ok, Err, filter_map, flat_map, filter, take_while, find, fold, slice_get, unwrap_or, option_map, is_some, ◌&&◌, ◌||◌}
+use Rattle.std.specs.Prelude.{Option, Some, None, Result, Ok, Err, filter_map, flat_map, filter, take_while, find, fold, slice_get, unwrap_or, option_map, is_some, ◌&&◌}
 use Rattle.std.specs.List.{AllByRecursion, last_or, list_any, cons_option}
 use Rattle.rk_bytes.specs.declared.model.key.Record.{Record}
 use Rattle.rk_bytes.specs.declared.model.manifest.Version.{Version}
-use Rattle.rk_bytes.specs.declared.model.log.GapWhy.{GapWhy}
 use Rattle.rk_bytes.specs.declared.model.wal.Mode.{Mode}
 use Rattle.rk_bytes.specs.declared.model.wal.Mode.TheVariants.{TolerateTail, Absolute, PointInTime, SkipAny}
 use Rattle.rk_bytes.specs.declared.model.wal.WalErr.{WalErr}
 use Rattle.rk_bytes.specs.Model.WriteBatch.{Batch, changes}
-use Rattle.rk_bytes.specs.Model.LogItems.{log_items, parting}
+use Rattle.rk_bytes.specs.Model.LogItems.{log_items}
 use Rattle.rk_bytes.specs.Model.LogMarks.{log_marks}
-use Rattle.rk_bytes.specs.Model.Replay.{Log, Replayed, Finding, batch, damage, unsupported, stale_end, clean_end, finding, Findings, findings, is_stale, ends_stale, IsPartOf, no_log, taken, left_out, is_stop, front, batch_in, batches, Stop, stop_in, stop_after, expected_after, expected_in, goes_on, count_log, counted, is_wanted, admitted, refusal, refusals, ahead, ahead_after, replay_counted, replay}
+use Rattle.rk_bytes.specs.Model.Replay.{Log, Replayed, Finding, batch, damage, unsupported, stale_end, clean_end, Findings, findings, is_stale, ends_stale, IsPartOf, no_log, taken, left_out, is_stop, batch_in, batches, Stop, stop_in, stop_after, expected_after, expected_in, goes_on, count_log, counted, is_wanted, admitted, refusal, refusals, ahead_after, replay}
 use Rattle.rk_laws.proofs.PartingLemmas.{EndsOnce-log_marks}
 use Rattle.rk_laws.proofs.ReplayLemmas.{EndsLast, items_end_last, findings_end_last}
 
@@ -48,11 +47,11 @@ Unstopped mode logs = AllByRecursion (λ log. stop_in mode log ≡ None) logs
 abbrev AreWhole : Mode → List Findings → Type 0
 AreWhole mode logs = AllByRecursion (λ log. batches mode log ≡ all_batches log) logs
 
-all_append : {A : Type 0} (P : A → Type 0) (xs ys : List A) → AllByRecursion P xs → AllByRecursion P ys → AllByRecursion P (xs ++ ys)
+pub all_append : {A : Type 0} (P : A → Type 0) (xs ys : List A) → AllByRecursion P xs → AllByRecursion P ys → AllByRecursion P (xs ++ ys)
 all_append P [] ys p q = q
 all_append P (x ∷ xs) ys p q = (p.0, all_append P xs ys p.1 q)
 
-all_map : {A : Type 0} (P Q : A → Type 0) → ((x : A) → P x → Q x) → (xs : List A) → AllByRecursion P xs → AllByRecursion Q xs
+pub all_map : {A : Type 0} (P Q : A → Type 0) → ((x : A) → P x → Q x) → (xs : List A) → AllByRecursion P xs → AllByRecursion Q xs
 all_map P Q more [] p = tt
 all_map P Q more (x ∷ xs) p = (more x p.0, all_map P Q more xs p.1)
 

@@ -1,18 +1,13 @@
 -- What replay finds in logs without damage.
-use Rattle.std.proofs.Common.{◌≡◌, ℕ, ◌+◌, Bool, true, false, not, List, [], ◌∷◌, ◌++◌, map, cond, refl, sym, ap, ◌∙◌, append_assoc}
-use Rattle.std.specs.Prelude.{Option, Some, None, Result, Ok, Err, filter_map, flat_map, filter, take_while, find, fold, slice_get, unwrap_or, option_map, is_some, ◌&&◌}
-use Rattle.std.specs.List.{AllByRecursion, last_or, list_any}
-use Rattle.rk_bytes.specs.declared.model.log.EndKind.{EndKind}
-use Rattle.rk_bytes.specs.declared.model.log.EndKind.TheVariants.{Clean, Torn as torn_end, Stale, Unsupported}
+use Rattle.std.proofs.Common.{◌≡◌, ℕ, Bool, true, false, List, [], ◌∷◌, ◌++◌, map, refl, ap}
+use Rattle.std.specs.Prelude.{Option, Some, None, Result, Ok, Err}
 use Rattle.rk_bytes.specs.declared.model.batch.BatchFault.{BatchFault}
 use Rattle.rk_bytes.specs.declared.model.batch.BatchFault.TheVariants.{TooSmall, BadRecord, UnsupportedTag, WrongCount, SequenceTop}
-use Rattle.rk_bytes.specs.declared.model.wal.Mode.{Mode}
-use Rattle.rk_bytes.specs.declared.model.wal.Mode.TheVariants.{TolerateTail, Absolute, PointInTime, SkipAny}
-use Rattle.rk_bytes.specs.Model.LogMarks.{Mark, full, first, middle, last, fault, cut, stale, unsupported as unsupported_mark, file_end, is_end, log_marks}
-use Rattle.rk_bytes.specs.Model.LogItems.{Item, rec, gap, end, EndsOnce, alone, closed, parting, log_items}
+use Rattle.rk_bytes.specs.Model.LogMarks.{Mark, full, first, middle, last, fault, cut, stale, unsupported as unsupported_mark, file_end}
+use Rattle.rk_bytes.specs.Model.LogItems.{Item, rec, gap, end, EndsOnce, parting}
 use Rattle.rk_bytes.specs.Model.WriteBatch.{Batch, batch_of}
 use Rattle.rk_laws.proofs.PartingLemmas.{later, no_later}
-use Rattle.rk_bytes.specs.Model.Replay.{Finding, batch, damage, unsupported, stale_end, clean_end, finding_of_record, finding, is_stale, is_stop, batch_in}
+use Rattle.rk_bytes.specs.Model.Replay.{finding_of_record, finding, is_stale}
 
 -- no item follows an end
 abbrev pub is_item_end : Item → Bool

@@ -56,7 +56,7 @@ found_at (x ∷ records) q r e = by (eq_by_cmp slot_cmp q (slot_of x)) refl (fou
     by true same later e = let is : x ≡ r = cc in ap slot_of (sym is) ∙ sym (equal_of q (slot_of x) same)
     by false other later e = later e
 
-found_in : (records : List Record) (q : Slot) (r : Record) → find slot_cmp q (last_placed records) ≡ Some r → slot_of r ≡ q
+pub found_in : (records : List Record) (q : Slot) (r : Record) → find slot_cmp q (last_placed records) ≡ Some r → slot_of r ≡ q
 found_in records q r e = found_at (reverse records) q r (sym (get-last_placed records q ∙ get-last_records records q) ∙ e)
 
 -- a record is known by its slot and its value
@@ -67,7 +67,7 @@ kind_of-kind_number Merge = refl
 kind_of-kind_number SingleDeletion = refl
 kind_of-kind_number RangeDeletion = refl
 
-kind_number-small : (kind : Kind) → kind_number kind < 256
+pub kind_number-small : (kind : Kind) → kind_number kind < 256
 kind_number-small Deletion = omega arith
 kind_number-small Value = omega arith
 kind_number-small Merge = omega arith

@@ -3,3 +3,4 @@ mod JoinLemmas
 mod BlockLemmas
 mod LeftLemmas
 mod FeedLemmas
+mod WriteLemmas

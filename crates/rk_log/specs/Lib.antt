@@ -4,3 +4,4 @@ pub mod Blocks
 pub mod Left
 pub mod Steps
 pub mod Walk
+pub mod Writing

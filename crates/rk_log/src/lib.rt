@@ -9,12 +9,15 @@ mod header;
 mod item;
 mod joining;
 mod reader;
+mod writer;
+mod written;
 
 pub use block::BLOCK_LEN;
 pub use feed::LogFeed;
 pub use item::{FeedItem, Item, Piece};
 pub use reader::LogReader;
 pub use rk_bytes::model::{EndKind, GapWhy};
+pub use writer::LogWriter;
 
 #[cfg(test)]
 mod tests;

@@ -1,5 +1,5 @@
 //! CRC32C, eight bytes at a time by tables.
-ghost use Rattle.std.specs.Prelude.{◌≡◌, ◌+◌, ◌*◌, ◌<◌, ◌≤◌};
+ghost use Rattle.std.specs.Prelude.{◌≡◌, ℕ, List, ◌++◌, ◌+◌, ◌*◌, ◌<◌, ◌≤◌};
 ghost use Rattle.rk_bytes.specs.Model.Checksums.{crc_bits, crc_bytes, crc32c, crc32c_extended};
 
 mod tables;
@@ -17,7 +17,8 @@ pub fn crc32c(bytes: &[u8]) -> u32
 /// The CRC32C of a front, whose sum is `crc`, and of the bytes after it.
 #[tactic(auto, unfolding(rk_bytes::specs::Model::Checksums::crc32c_extended))]
 pub fn crc32c_extend(crc: u32, bytes: &[u8]) -> u32
-    ensures { result ≡ crc32c_extended crc bytes.now }
+    ensures value { result ≡ crc32c_extended crc bytes.now }
+    ensures whole { (front : List ℕ) → crc ≡ crc32c front → result ≡ crc32c (front ++ bytes.now) }
 {
     after_bytes(crc ^ 0xFFFF_FFFF, bytes) ^ 0xFFFF_FFFF
 }

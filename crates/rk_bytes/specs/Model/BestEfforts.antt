@@ -1,8 +1,8 @@
 -- Best-efforts opening: how far the files that are whole let each family come (the idea is that of
 -- `best_efforts_recovery` in db/version_edit_handler.cc). When a file is whole, the points of families, what a
 -- group of edits asks of them, which points are the best and which manifest counts are this project's own rules.
-use Rattle.std.specs.Prelude.{◌≡◌, ℕ, zero, suc, ◌-◌, ◌*◌, ◌<◌, ◌≤◌, Bool, true, false, not, ◌&&◌, ◌||◌, ◌⊎◌, List, [], ◌∷◌, ◌++◌, length, replicate, map, flat_map, bytes_eq, filter_map, filter, max, nat_lt, nat_le, nat_eq, ◌==◌, if◌then◌else◌, Option, Some, None, ok_or, is_ok, Result, Ok, Err, codes, refl}
-use Rattle.std.specs.List.{AllByRecursion, list_any, list_all, reduce}
+use Rattle.std.specs.Prelude.{◌≡◌, ℕ, zero, suc, ◌-◌, ◌*◌, ◌<◌, ◌≤◌, Bool, true, false, not, ◌&&◌, ◌||◌, ◌⊎◌, List, [], ◌∷◌, ◌++◌, length, replicate, map, take, zip, flat_map, bytes_eq, filter_map, filter, max, nat_lt, nat_le, nat_eq, ◌==◌, if◌then◌else◌, Option, Some, None, unwrap_or, ok_or, is_ok, Result, Ok, Err, codes, refl}
+use Rattle.std.specs.List.{AllByRecursion, list_any, list_all, last_or, reduce}
 use Rattle.std.specs.FinMap.{get, entries}
 use Rattle.std.specs.Fmt.{digits}
 use Rattle.rk_bytes.specs.declared.model.name.FileName.{FileName}
@@ -26,8 +26,8 @@ use Rattle.rk_bytes.specs.Model.DiskImages.{Directory}
 use Rattle.rk_bytes.specs.Model.FileNames.{manifest_name, table_name, name_of}
 use Rattle.rk_bytes.specs.Model.BlockEntries.{collected}
 use Rattle.rk_bytes.specs.Model.InternalKey.{internal_key}
-use Rattle.rk_bytes.specs.Model.VersionEdit.{Field, log_number, next_file, last_sequence, delete_file, add_file, family, family_add, file_with, added_in, edit_fields}
-use Rattle.rk_bytes.specs.Model.Manifest.{ManifestUnit, edits_of, parted_units, file_meta, first_version, steps_in_order, edit_step, overlap, unit_step, version_after, version_at, complete, manifest_units, has_id}
+use Rattle.rk_bytes.specs.Model.VersionEdit.{Field, log_number, next_file, last_sequence, delete_file, add_file, family, family_add, family_drop, drops_family, file_with, added_in, edit_fields}
+use Rattle.rk_bytes.specs.Model.Manifest.{ManifestUnit, edits_of, parted_units, file_meta, has_number, first_version, steps_in_order, edit_step, overlap, unit_step, version_after, version_at, complete, manifest_units, has_id}
 use Rattle.rk_bytes.specs.Model.Opening.{Best, Files, Listed, TableFile, in_order, table_file, state_with}
 
 -- the families that are live after the first so many units, and none where one of these is refused
@@ -42,13 +42,32 @@ last_families units = families_at units (length units)
 abbrev pub files_at : List ManifestUnit → ℕ → ℕ → List FileMeta
 files_at units id point = flat_map (λ live. live.files) (filter (has_id id) (families_at units point))
 
+-- the files that an edit adds, each with whether it is looked at: not where the edit drops its family
+abbrev pub added_by : List Field → List (FileMeta × Bool)
+added_by edit = map (λ new. (file_meta new, not (list_any drops_family edit))) (filter_map added_in edit)
+
+-- the files that units add, in order, each with whether it is looked at
+abbrev pub added_files : List ManifestUnit → List (FileMeta × Bool)
+added_files units = flat_map (λ unit. flat_map added_by unit.edits) units
+
 -- the files that units add, in order
 abbrev pub listed : List ManifestUnit → List FileMeta
-listed units = flat_map (λ unit. flat_map (λ edit. map file_meta (filter_map added_in edit)) unit.edits) units
+listed units = map (λ added. added.0) (added_files units)
 
--- A test of files, at each point of a family: every file that the family has there passes.
+-- Every file that the family has at the point passes the test.
 abbrev pub all_pass : (FileMeta → Bool) → List ManifestUnit → ℕ → ℕ → Bool
 all_pass is_whole units id point = list_all is_whole (files_at units id point)
+
+-- Instead of a test there may be an answer for each file that units add. The answer for a file in a version is that
+-- of the last one added with its number and looked at.
+abbrev pub answer_for : List ((FileMeta × Bool) × Bool) → ℕ → Bool
+answer_for answers number = unwrap_or (last_or None (map (λ a. a.1) (filter (λ a. a.0.1 && has_number number a.0.0) answers))) false
+
+-- The answer for every file that the family has at the point is true. Answers that are those of a test say what
+-- the test says (law `answers_of_a_test`).
+abbrev pub answers_pass : List Bool → List ManifestUnit → ℕ → ℕ → Bool
+answers_pass answers units id point =
+    let first = zip (added_files (take point units)) answers in list_all (λ file. answer_for first file.number) (files_at units id point)
 
 -- the places of the units that are groups, of units of which the first is at this place
 abbrev pub group_places : ℕ → List ManifestUnit → List ℕ
@@ -254,6 +273,16 @@ of_families_that_a_group_adds :
     ≡ record { family = 0; at = 1 } ∷ record { family = 1; at = 0 } ∷ []
 unfolding best_where one_group family_one added
 of_families_that_a_group_adds = refl
+
+-- File 7 is deleted and added again, and a third edit that adds it drops its family, so that its answer, the last, isn't
+-- looked at.
+of_answers :
+    map (λ point. answers_pass (false ∷ true ∷ false ∷ []) (
+    one_edit (added 7 9 ∷ []) ∷ one_edit (delete_file 0 7 ∷ added 7 9 ∷ []) ∷ one_edit family_one ∷ one_edit (family 1 ∷ family_drop ∷ added 7 9 ∷ []) ∷ []) 0 point) (
+    0 ∷ 1 ∷ 2 ∷ 4 ∷ [])
+    ≡ true ∷ false ∷ true ∷ true ∷ []
+unfolding one_edit family_one added steps_in_order edit_step overlap unit_step version_after
+of_answers = refl
 
 -- The units before a refused one count.
 of_a_refused_unit : usable (new_database ∷ one_edit (delete_file 0 9 ∷ []) ∷ new_database ∷ []) ≡ new_database ∷ []

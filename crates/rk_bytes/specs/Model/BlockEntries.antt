@@ -288,17 +288,10 @@ pub record IsIndex (is_delta : Bool) (block : List ℕ) (index : List IndexEntry
 one_restart : List ℕ → List ℕ
 one_restart entries = entries ++ 0 ∷ 0 ∷ 0 ∷ 0 ∷ 1 ∷ 0 ∷ 0 ∷ 0 ∷ []
 
-too_short : block_entries (0 ∷ 0 ∷ 0 ∷ []) ≡ Err Short
+-- three bytes, a hash index, and no restart
+of_no_block : map block_entries ((0 ∷ 0 ∷ 0 ∷ []) ∷ (0 ∷ 0 ∷ 0 ∷ 0 ∷ 1 ∷ 0 ∷ 0 ∷ 0x80 ∷ []) ∷ (0 ∷ 0 ∷ 0 ∷ 0 ∷ []) ∷ []) ≡ Err Short ∷ Err HashIndex ∷ Err BadRestarts ∷ []
 unfolding block_entries
-too_short = refl
-
-with_a_hash_index : block_entries (0 ∷ 0 ∷ 0 ∷ 0 ∷ 1 ∷ 0 ∷ 0 ∷ 0x80 ∷ []) ≡ Err HashIndex
-unfolding block_entries
-with_a_hash_index = refl
-
-without_a_restart : block_entries (0 ∷ 0 ∷ 0 ∷ 0 ∷ []) ≡ Err BadRestarts
-unfolding block_entries
-without_a_restart = refl
+of_no_block = refl
 
 without_an_entry : block_entries (one_restart []) ≡ Ok []
 unfolding block_entries entries_after one_restart
@@ -341,3 +334,9 @@ of_delta_handles = refl
 below_nothing : index_entries true (one_restart (0 ∷ 1 ∷ codes "a" ++ 0 ∷ 100 ∷ 1 ∷ 1 ∷ codes "b" ++ 201 ∷ 1 ∷ [])) ≡ Err BadHandle
 unfolding index_entries entries_after one_restart
 below_nothing = refl
+
+-- an entry of four bytes, where there may be none, and one
+bound_by_their_number : map (λ n. entries_after (next_entry 4) n (no_entry []) (0 ∷ 1 ∷ 0 ∷ codes "a")) (0 ∷ 1 ∷ [])
+    ≡ Err (BadEntry 4) ∷ Ok (record { place = 0; shared = 0; key = codes "a"; value = [] } ∷ []) ∷ []
+unfolding entries_after
+bound_by_their_number = refl

@@ -4,6 +4,7 @@ pub mod Drill
 pub mod DrillLogs
 pub mod Opening
 pub mod Output
+pub mod OutputTables
 pub mod Properties
 pub mod Repair
 pub mod Salvage

@@ -52,27 +52,33 @@ abbrev pub key_bytes : KeyWord → List ℕ
 key_bytes (text_key text) = text
 key_bytes (hex_key digits) = elim (decode_of digits) [ Ok bytes ↦ bytes | Err why ↦ [] ]
 
--- The words that spell parts of a command.
+-- the word that spells a key by itself
 abbrev pub key_word : KeyWord → List ℕ
 key_word (text_key text) = text
 key_word (hex_key digits) = codes "0x" ++ digits
 
+-- the word that names the family
 abbrev pub family_word : List ℕ → List ℕ
 family_word name = codes "--family=" ++ name
 
+-- the word that says how the database is opened
 abbrev pub how_word : How → List ℕ
 how_word (Normal mode) = codes "--mode=" ++ (48 + mode_number mode) ∷ []
 how_word Best = codes "--best-efforts"
 
+-- the word for the key that a scan begins at
 abbrev pub from_word : KeyWord → List ℕ
 from_word key = codes "--from=" ++ key_word key
 
+-- the word for the key that a scan ends before
 abbrev pub to_word : KeyWord → List ℕ
 to_word key = codes "--to=" ++ key_word key
 
+-- the word that asks for bytes in hexadecimal
 abbrev pub hex_word : List ℕ
 hex_word = codes "--hex"
 
+-- the word that says what is asked of a table
 abbrev pub part_word : SstPart → List ℕ
 part_word Check = codes "check"
 part_word Scan = codes "scan"
@@ -83,6 +89,7 @@ abbrev pub option_words : {A : Type 0} → (A → List ℕ) → Option A → Lis
 option_words word None = []
 option_words word (Some value) = word value ∷ []
 
+-- the last words of a command, none or the one that asks for hexadecimal
 abbrev pub hex_words : Bool → List (List ℕ)
 hex_words true = hex_word ∷ []
 hex_words false = []
@@ -127,22 +134,27 @@ after front word = if starts_with nat_eq word front then Some (drop (length fron
 abbrev pub number_of : List ℕ → Option ℕ
 number_of word = let n = digits_value 10 word in if nat_lt n (2 ^ 64) && bytes_eq (decimal n) word then Some n else None
 
+-- the key that the word spells
 abbrev pub key_word_of : List ℕ → Option KeyWord
 key_word_of word = elim (after (codes "0x") word) [ Some digits ↦ if spell_bytes digits then Some (hex_key digits) else None | None ↦ Some (text_key word) ]
 
--- What an option's word says; nothing where it is another word.
+-- the family's name, where the word is that option
 abbrev pub family_option : List ℕ → Option (List ℕ)
 family_option word = option_and_then (λ name. if nat_lt 0 (length name) then Some name else None) (after (codes "--family=") word)
 
+-- how the database is opened, where the word says it
 abbrev pub how_option : List ℕ → Option How
 how_option word = find (λ how. bytes_eq (how_word how) word) (Best ∷ Normal TolerateTail ∷ Normal Absolute ∷ Normal PointInTime ∷ Normal SkipAny ∷ [])
 
+-- the key that a scan begins at, where the word is that option
 abbrev pub from_option : List ℕ → Option KeyWord
 from_option word = option_and_then key_word_of (after (codes "--from=") word)
 
+-- the key that a scan ends before, where the word is that option
 abbrev pub to_option : List ℕ → Option KeyWord
 to_option word = option_and_then key_word_of (after (codes "--to=") word)
 
+-- what the word asks of a table
 abbrev pub sst_part_of : List ℕ → Option SstPart
 sst_part_of word = find (λ part. bytes_eq (part_word part) word) (Check ∷ Scan ∷ Properties ∷ [])
 
@@ -162,34 +174,40 @@ abbrev pub alone : Command → List (List ℕ) → Option Command
 alone command [] = Some command
 alone command _ = None
 
--- The command that the words after each name spell.
+-- the command of the words after `scan`
 unfoldable pub scan_of : List (List ℕ) → Option Command
 scan_of words =
     let family = option_at family_option words in let how = option_at how_option family.1 in
     let from = option_at from_option how.1 in let to = option_at to_option from.1 in
     option_map (scan family.0 (unwrap_or how.0 usual) from.0 to.0) (hex_of to.1)
 
+-- the command of the words after `get`, the first of which is the key whatever it is
 unfoldable pub get_of : List (List ℕ) → Option Command
 get_of [] = None
 get_of (word ∷ words) =
     let family = option_at family_option words in let how = option_at how_option family.1 in
     option_and_then (λ key. option_map (get key family.0 (unwrap_or how.0 usual)) (hex_of how.1)) (key_word_of word)
 
+-- the command of the words after `dump_wal`
 unfoldable pub dump_wal_of : List (List ℕ) → Option Command
 dump_wal_of [] = None
 dump_wal_of (number ∷ words) = option_and_then (λ n. option_map (dump_wal n) (hex_of words)) (number_of number)
 
+-- the command of the words after `check`
 unfoldable pub check_of : List (List ℕ) → Option Command
 check_of words = let how = option_at how_option words in alone (check (unwrap_or how.0 usual)) how.1
 
+-- What is asked of a table, with the words that are left. A check takes none.
 abbrev pub part_command : ℕ → List (List ℕ) → SstPart → Option Command
 part_command n words Check = alone (sst n Check false) words
 part_command n words part = option_map (sst n part) (hex_of words)
 
+-- the command of the words after `sst`
 unfoldable pub sst_of : List (List ℕ) → Option Command
 sst_of (number ∷ part ∷ words) = option_and_then (λ n. option_and_then (part_command n words) (sst_part_of part)) (number_of number)
 sst_of _ = None
 
+-- the command of the words after `drill`, whose number is from 1 to 100,000
 unfoldable pub drill_of : List (List ℕ) → Option Command
 drill_of [] = None
 drill_of (number ∷ words) = option_and_then (λ n. if nat_le 1 n && nat_le n 100000 then alone (drill n) words else None) (number_of number)

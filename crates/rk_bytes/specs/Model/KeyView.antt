@@ -1,5 +1,5 @@
 -- What a database shows of a key (RocksDB's wiki, "DeleteRange" and "Merge Operator Implementation";
--- db/get_context.cc). That a range deletion of a table acts between the bounds of its file alone is
+-- table/get_context.cc). That a range deletion of a table acts between the bounds of its file alone is
 -- db/range_del_aggregator.cc. Merge operands are shown and never combined, which is this project's own rule.
 use Rattle.std.specs.Prelude.{◌≡◌, ℕ, ◌-◌, ◌^◌, ◌==◌, Bool, true, false, not, ◌&&◌, List, [], ◌∷◌, ◌++◌, length, map, take, drop, filter, filter_map, find, take_while, sum, min, max, nat_lt, Option, Some, None, option_map, bytes_eq, codes, T, refl}
 use Rattle.std.specs.List.{list_any, reduce, dedup}
@@ -35,10 +35,12 @@ pub record Row : Type 0 where
   pub key : List ℕ
   pub answer : Answer
 
+-- the kind is that of a put
 abbrev pub is_put : Kind → Bool
 is_put Value = true
 is_put _ = false
 
+-- the kind is that of a merge
 abbrev pub is_merge : Kind → Bool
 is_merge Merge = true
 is_merge _ = false
@@ -56,10 +58,11 @@ key_of r = internal_key r.key r.sequence r.kind
 abbrev pub lies_within : List ℕ → List ℕ → List ℕ → Bool
 lies_within smallest largest key = is_le (key_cmp smallest key) && is_le (key_cmp key largest)
 
--- a user key is at or above a start, and below an end
+-- a user key is at or above a start
 abbrev pub is_from : List ℕ → List ℕ → Bool
 is_from start user = is_le (slice_cmp nat_cmp start user)
 
+-- a user key is below an end, which is excluded
 abbrev pub is_before : List ℕ → List ℕ → Bool
 is_before end user = is_lt (slice_cmp nat_cmp user end)
 
@@ -95,10 +98,11 @@ is_of_key family key r = r.family == family && bytes_eq r.key key && is_point r.
 abbrev pub uncovered : List Tomb → ℕ → List ℕ → List Record → List Record
 uncovered tombs family key records = filter (λ r. is_of_key family key r && not (is_covered tombs r)) records
 
--- the merges at the front, and the record after them if it is a put
+-- the merges at the front
 abbrev pub front_merges : List Record → List Record
 front_merges records = take_while (λ r. is_merge r.kind) records
 
+-- the record after the merges at the front, if it is a put
 abbrev pub base_put : List Record → List Record
 base_put records = take_while (λ r. is_put r.kind) (take 1 (drop (length (front_merges records)) records))
 
@@ -110,18 +114,21 @@ deciding records = front_merges records ++ base_put records
 unfoldable pub view_records : State → ℕ → List ℕ → List Record
 view_records state family key = deciding (uncovered state.tombs family key (values state.records))
 
--- what the records that decide show
+-- the value that records which decide put, where they put one
 abbrev pub base_value : List Record → Option (List ℕ)
 base_value records = option_map (λ r. r.value) (find (λ r. is_put r.kind) records)
 
+-- the operands of their merges, the newest first
 abbrev pub operands : List Record → List (List ℕ)
 operands records = map (λ r. r.value) (front_merges records)
 
+-- what operands and the value that they are to be applied to show
 abbrev pub merged : List (List ℕ) → Option (List ℕ) → Answer
 merged [] None = absent
 merged [] (Some value) = found value
 merged (value ∷ more) base = merge (value ∷ more) base
 
+-- what the records that decide show
 abbrev pub shown : List Record → Answer
 shown records = merged (operands records) (base_value records)
 
@@ -150,10 +157,11 @@ rows state family from to = filter_map (λ key. row_of key (answer state family 
 abbrev pub family_named : State → List ℕ → Option ℕ
 family_named state name = reduce min (map (λ line. line.id) (filter (λ line. bytes_eq line.name name) state.families))
 
--- how many records the map holds, and of how many keys something is shown; at most 2 ^ 64 - 1
+-- how many records the map holds, at most 2 ^ 64 - 1
 abbrev pub record_count : State → ℕ
 record_count state = min (len state.records) (2 ^ 64 - 1)
 
+-- of how many keys of all families something is shown, at most 2 ^ 64 - 1
 abbrev pub key_count : State → ℕ
 key_count state = min (sum (map (λ line. length (rows state line.id None None)) state.families)) (2 ^ 64 - 1)
 
@@ -218,6 +226,18 @@ four_keys = of_default (codes "a") 8 Value (codes "2") ∷ of_default (codes "a"
 of_four_keys : rows (state_of four_keys (cut_before_c ∷ [])) 0 None None ≡ record { key = codes "a"; answer = found (codes "2") } ∷ record { key = codes "c"; answer = found (codes "4") } ∷ []
 unfolding rows state_of placed four_keys of_default view_records cut_before_c covers internal_key slot_cmp
 of_four_keys = of_values (λ records. filter_map (λ key. row_of key (shown (deciding (uncovered (cut_before_c ∷ []) 0 key records)))) (filter (is_between None None) (keys_in records 0))) four_keys tt
+
+of_a_count : key_count (state_of four_keys (cut_before_c ∷ [])) ≡ 2
+unfolding state_of
+of_a_count = λ i. min (sum (length (of_four_keys i) ∷ [])) (2 ^ 64 - 1)
+
+-- of two families with one name the lower id counts
+of_names : map (family_named (record {
+  families = record { id = 0; name = codes "default"; log = 3; files = 1 } ∷ record { id = 7; name = codes "x"; log = 3; files = 0 } ∷ record { id = 9; name = codes "x"; log = 3; files = 0 } ∷ [];
+  records = from_sorted [];
+  tombs = [];
+})) (codes "x" ∷ codes "default" ∷ codes "y" ∷ []) ≡ Some 7 ∷ Some 0 ∷ None ∷ []
+of_names = refl
 
 -- An empty lower bound leaves every key in, an empty upper one none.
 of_bounds : map (λ (bounds : Option (List ℕ) × Option (List ℕ)). map (is_between bounds.0 bounds.1) (codes "a" ∷ codes "b" ∷ codes "bb" ∷ codes "c" ∷ [])) ((Some (codes "b"), Some (codes "c")) ∷ (Some [], None) ∷ (None, Some []) ∷ [])

@@ -60,6 +60,7 @@ use Rattle.rk_bytes.specs.Model.Grammar.{mode_number}
 
 -- ---- lines and the bytes in them
 
+-- a line of this text
 abbrev pub line : List ℕ → List ℕ
 line text = text ++ 10 ∷ []
 
@@ -141,6 +142,7 @@ change_value hex Merge value = codes " => " ++ quoted hex value
 change_value hex RangeDeletion until = codes " .. " ++ quoted hex until
 change_value hex _ value = []
 
+-- a part of a batch
 abbrev pub part_line : Bool → Part → List ℕ
 part_line hex (change place r) = inner_line (change_word r.kind ++ then_number r.family ++ codes " " ++ key_at hex r.key r.sequence ++ change_value hex r.kind r.value)
 part_line hex (log_bytes place bytes) = inner_line (codes "log_bytes" ++ then_number (length bytes))
@@ -185,6 +187,7 @@ abbrev pub synced_words : Option ℕ → List ℕ
 synced_words None = []
 synced_words (Some synced) = codes " synced" ++ then_number synced
 
+-- a field of an edit
 abbrev pub field_words : Bool → Field → List ℕ
 field_words hex (comparator name) = codes "comparator " ++ quoted hex name
 field_words hex (log_number n) = codes "log_number" ++ then_number n
@@ -212,8 +215,8 @@ edit_lines hex bytes = elim (edit_fields bytes) [
 ]
 
 -- a family of the last version
-abbrev pub family_line : FamilyState → List ℕ
-family_line live = line (codes "family" ++ then_number live.id ++ codes " " ++ quoted false live.name ++ codes " log" ++ then_number live.log ++ codes " files" ++ then_number (length live.files))
+abbrev pub families_line : FamilyState → List ℕ
+families_line live = line (codes "family" ++ then_number live.id ++ codes " " ++ quoted false live.name ++ codes " log" ++ then_number live.log ++ codes " files" ++ then_number (length live.files))
 
 -- ---- what is shown of keys
 
@@ -228,10 +231,11 @@ answer_words hex (found value) = quoted hex value
 answer_words hex absent = codes "not found"
 answer_words hex (merge operands base) = codes "merge" ++ flat_map (λ value. codes " " ++ quoted hex value) operands ++ codes " base " ++ base_words hex base
 
--- a row of a scan, and the answer for one key
+-- a row of a scan
 abbrev pub row_line : Bool → Row → List ℕ
 row_line hex row = line (quoted hex row.key ++ codes " => " ++ answer_words hex row.answer)
 
+-- the answer for one key
 abbrev pub answer_line : Bool → Answer → List ℕ
 answer_line hex answer = line (answer_words hex answer)
 
@@ -253,13 +257,15 @@ ok_line families files records = line (codes "ok: families" ++ then_number famil
 abbrev pub count_words : ℕ → ℕ → List ℕ
 count_words records keys = codes "records" ++ then_number records ++ codes " keys" ++ then_number keys
 
--- what is said of a mode, and of best efforts, by the drill
+-- what a drill says of a mode
 abbrev pub mode_line : Mode → List ℕ → List ℕ
 mode_line mode words = line (codes "mode" ++ then_number (mode_number mode) ++ codes ": " ++ words)
 
+-- what it says of best efforts
 abbrev pub best_efforts_line : List ℕ → List ℕ
 best_efforts_line words = line (codes "best-efforts: " ++ words)
 
+-- the first line of a drill
 abbrev pub drill_line : ℕ → List ℕ
 drill_line n = line (codes "drill" ++ then_number n)
 
@@ -269,6 +275,7 @@ drill_line n = line (codes "drill" ++ then_number n)
 abbrev pub moved_line : Moved → List ℕ
 moved_line moved = line (codes "lost: " ++ moved.name ++ codes " " ++ moved.lost)
 
+-- the counts of a repair
 abbrev pub repaired_line : Report → List ℕ
 repaired_line report = line (codes "repaired: families" ++ then_number report.families ++ codes " tables" ++ then_number report.tables ++ codes " logs" ++ then_number report.logs
     ++ codes " added" ++ then_number report.added ++ codes " archived" ++ then_number report.archived ++ codes " records" ++ then_number report.records)
@@ -356,13 +363,15 @@ table_what_words table_what.External = codes "External"
 table_what_words table_what.HashIndex = codes "HashIndex"
 table_what_words (table_what.RecordKind kind) = codes "RecordKind" ++ then_number kind
 
--- a table that is damaged, or not supported
+-- a table that is damaged
 abbrev pub damaged_words : ℕ → TableWhy → ℕ → List ℕ
 damaged_words n why place = codes "DamagedTable" ++ then_number n ++ codes " " ++ table_why_word why ++ then_number place
 
+-- a table that isn't supported
 abbrev pub unsupported_words : ℕ → TableWhat → List ℕ
 unsupported_words n what = codes "UnsupportedTable" ++ then_number n ++ codes " " ++ table_what_words what
 
+-- the fault of a table
 abbrev pub table_fault_words : ℕ → TableFault → List ℕ
 table_fault_words n (damaged why place) = damaged_words n why place
 table_fault_words n (unsupported what) = unsupported_words n what
@@ -372,6 +381,7 @@ abbrev pub log_what_words : LogWhat → List ℕ
 log_what_words (log_what.RecordType kind) = codes "type" ++ then_number kind
 log_what_words (log_what.Tag tag) = codes "tag" ++ then_number tag
 
+-- a log in which something isn't supported
 abbrev pub unsupported_log_words : ℕ → LogWhat → List ℕ
 unsupported_log_words log what = codes "UnsupportedLog" ++ then_number log ++ codes " " ++ log_what_words what
 
@@ -415,31 +425,37 @@ survey_err_words (survey_err.FamilyTooLarge id) = codes "FamilyTooLarge" ++ then
 survey_err_words survey_err.DiskFault = codes "DiskFault"
 survey_err_words survey_err.Memory = codes "Memory"
 
--- what isn't there: a log, a table, a live family
+-- a log that isn't there
 abbrev pub no_log_words : ℕ → List ℕ
 no_log_words n = codes "NoLog" ++ then_number n
 
+-- a table that isn't there
 abbrev pub no_table_words : ℕ → List ℕ
 no_table_words n = codes "NoTable" ++ then_number n
 
+-- a family that no live one is
 abbrev pub no_family_words : List ℕ → List ℕ
 no_family_words name = codes "NoFamily " ++ quoted false name
 
--- the text of a refusal, and its line
+-- the text of a refusal
 abbrev pub refused_words : List ℕ → List ℕ
 refused_words why = codes "refused: " ++ why
 
+-- the line of a refusal
 abbrev pub refusal_line : List ℕ → List ℕ
 refusal_line why = line (refused_words why)
 
 -- ---- words that spell no command, and faults
 
+-- the line that answers words that spell no command
 abbrev pub usage_line : List ℕ
 usage_line = line (codes "usage: scan get families manifest_dump dump_wal check repair sst drill")
 
+-- the line that ends an output after a fault of the disk
 abbrev pub disk_fault_line : List ℕ
 disk_fault_line = line (codes "fault: disk")
 
+-- the line that ends an output after want of memory
 abbrev pub memory_fault_line : List ℕ
 memory_fault_line = line (codes "fault: memory")
 

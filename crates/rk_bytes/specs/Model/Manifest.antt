@@ -415,14 +415,24 @@ of_a_new_database : last_version (units_of_items (logged (first_edit ∷ []))) �
 unfolding logged first_edit parted_units edits_of edit_fields in_turn steps_in_order edit_step overlap unit_step version_after
 of_a_new_database = refl
 
-of_no_edit : last_version (units_of_items (logged [])) ≡ Err (NoFields LogNumber)
-unfolding logged parted_units edits_of version_after
-of_no_edit = refl
-
--- A refused unit comes first, here one that deletes file 9 at level 1. The edit after it doesn't read.
-of_an_absent_file : last_version (units_of_items (logged (first_edit ∷ (6 ∷ 1 ∷ 9 ∷ []) ∷ (0x66 ∷ []) ∷ []))) ≡ Err (BadEdit 2 (Apply (DeleteAbsent 9)))
+-- No edit states a log number. A refused unit comes first, here one that deletes file 9 at level 1, and the edit
+-- after it doesn't read.
+of_no_last_version :
+    map (λ edits. last_version (units_of_items (logged edits))) ([] ∷ (first_edit ∷ (6 ∷ 1 ∷ 9 ∷ []) ∷ (0x66 ∷ []) ∷ []) ∷ [])
+    ≡ Err (NoFields LogNumber) ∷ Err (BadEdit 2 (Apply (DeleteAbsent 9))) ∷ []
 unfolding logged first_edit parted_units edits_of edit_fields in_turn steps_in_order edit_step overlap unit_step version_after
-of_an_absent_file = refl
+of_no_last_version = refl
+
+-- a version whose families have these log numbers, under this least log
+with_logs : List ℕ → ℕ → Version
+with_logs logs least = record first_version {
+  families = map (λ log. record { id = log; name = []; log = log; files = [] }) logs;
+  least_log = least;
+}
+
+of_first_logs : map first_log (with_logs (5 ∷ 3 ∷ []) 2 ∷ with_logs (5 ∷ 3 ∷ []) 4 ∷ with_logs [] 4 ∷ with_logs [] 0 ∷ []) ≡ 3 ∷ 4 ∷ 4 ∷ 0 ∷ []
+unfolding with_logs
+of_first_logs = refl
 
 -- The comparator comes first. A drop is looked at after an add too.
 of_families : map (λ edit. edit_step edit first_version) (

@@ -1,6 +1,7 @@
 -- What a directory is opened to, or the first reason why it isn't (db/db_impl/db_impl_open.cc,
--- db/version_set.cc). The order of the refusals, that each block of every listed table is tested and its records
--- against the stated bounds, and the tracked logs' tests are this project's own rules.
+-- db/version_set.cc; db/wal_edit.cc on tracked logs). The order of the refusals, that each block of every listed
+-- table is tested and its records against the stated bounds, and that a tracked log below the first one that is
+-- needed isn't looked at are this project's own rules.
 use Rattle.std.specs.Prelude.{◌≡◌, ℕ, ◌==◌, max, Bool, List, [], ◌∷◌, ◌++◌, length, map, flat_map, filter, filter_map, fold, nat_lt, nat_le, if◌then◌else◌, Option, Some, None, ok_or, Result, Ok, Err, codes, refl}
 use Rattle.std.specs.List.{list_all}
 use Rattle.std.specs.FinMap.{get, entries}
@@ -64,13 +65,15 @@ in_order number (thing ∷ things) =
     let others = in_order number things in
     filter (λ other. nat_lt (number other) (number thing)) others ++ thing ∷ filter (λ other. nat_le (number thing) (number other)) others
 
--- the tables that a family lists, and those of families in rising number
+-- the tables that a family lists
 abbrev pub listed_by : FamilyState → List Listed
 listed_by live = map (λ file. record { family = live.id; file = file }) live.files
 
+-- the tables that families list, in rising number
 abbrev pub listed_tables : List FamilyState → List Listed
 listed_tables families = in_order (λ table. table.file.number) (flat_map listed_by families)
 
+-- the refusal of a table that isn't good
 abbrev pub table_fault : ℕ → TableFault → OpenErr
 table_fault number (damaged why place) = DamagedTable number why place
 table_fault number (unsupported what) = UnsupportedTable number what
@@ -96,13 +99,15 @@ table_file files listed = let number = listed.file.number in do
 abbrev pub range_record : ℕ → RangeDel → Record
 range_record family range = record { family = family; key = range.start; sequence = range.sequence; kind = RangeDeletion; value = range.end }
 
--- the records and the range deletions of a table, under the family that the manifest gives it
+-- the range deletions of a table as records, under the family that the manifest gives it
 abbrev pub table_ranges : TableFile → List Record
 table_ranges table = map (range_record table.listed.family) table.good.table.ranges
 
+-- a record under this family
 abbrev pub of_family : ℕ → Record → Record
 of_family family r = record r { family = family }
 
+-- all records of a table, under the family that the manifest gives it
 abbrev pub table_records : TableFile → List Record
 table_records table = map (of_family table.listed.family) table.good.records ++ table_ranges table
 
@@ -114,7 +119,7 @@ table_tombs table = map (tomb_of (Some (record { smallest = table.listed.file.sm
 abbrev pub log_tombs : List Record → List Tomb
 log_tombs records = map (tomb_of None) (filter (λ r. is_range_deletion r.kind) records)
 
--- the lines of live families
+-- the line of a live family
 abbrev pub family_line : FamilyState → FamilyLine
 family_line live = record { id = live.id; name = live.name; log = live.log; files = length live.files }
 
@@ -126,35 +131,39 @@ state_with lines tables logged = record {
   tombs = flat_map table_tombs tables ++ log_tombs logged;
 }
 
+-- the greatest sequence number of records, 0 with none
 abbrev pub greatest_sequence : List Record → ℕ
 greatest_sequence records = fold max 0 (map (λ r. r.sequence) records)
 
--- the number of the manifest that CURRENT names, and its last version
+-- the number of the manifest that CURRENT names
 abbrev pub named_manifest : Files → Result ℕ OpenErr
 named_manifest files = do
   text ← ok_or (files current_name) NoCurrent
   with_fault BadCurrent (current_manifest text)
 
+-- the last version of the manifest with this number
 abbrev pub version_in : Files → ℕ → Result Version OpenErr
 version_in files number = do
   bytes ← ok_or (files (manifest_name number)) (NoManifest number)
   with_fault Manifest (last_version (manifest_units bytes))
 
--- A tracked log with a synced size is there with that many bytes at least, where replay comes to it.
+-- the bytes of a log of which so many at least are there, where it is said how many were synced
 abbrev pub has_synced : Files → ℕ → Option ℕ → Result (List ℕ) OpenErr
 has_synced files number None = Ok []
 has_synced files number (Some synced) = do
   bytes ← ok_or (files (log_name number)) (MissingLog number)
   if nat_lt (length bytes) synced then Err (ShortLog number synced (length bytes)) else Ok bytes
 
+-- A tracked log that replay comes to, which begins with the first log that is still needed, has what was synced of it.
 abbrev pub tracked_log : Files → ℕ → Tracked → Result (List ℕ) OpenErr
 tracked_log files first tracked = if nat_lt tracked.log first then Ok [] else has_synced files tracked.log tracked.synced
 
--- a directory's logs in rising number
+-- the log that a file is, by its name
 abbrev pub log_of : FileName → List ℕ → Option Log
 log_of (log_file number) bytes = Some (record { number = number; bytes = bytes })
 log_of _ bytes = None
 
+-- the logs among files, in rising number
 abbrev pub logs_of : List (List ℕ × List ℕ) → List Log
 logs_of files = in_order (λ log. log.number) (filter_map (λ (file : List ℕ × List ℕ). log_of (name_of file.0) file.1) files)
 

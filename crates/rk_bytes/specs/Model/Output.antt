@@ -26,17 +26,18 @@ use Rattle.rk_bytes.specs.Model.BestEfforts.{best_directory}
 use Rattle.rk_bytes.specs.Model.Salvage.{salvage_families, salvage_records, uncut_tombs, repair_report}
 use Rattle.rk_bytes.specs.Model.Drill.{drill_directory}
 use Rattle.rk_bytes.specs.Model.Grammar.{KeyWord, key_bytes, Command, scan, get, families, manifest_dump, dump_wal, check, repair, sst, drill, all_modes, command_of}
-use Rattle.rk_bytes.specs.Model.Lines.{line, item_line, batch_lines, edit_lines, family_line, row_line, answer_line, manifest_line, point_line, ok_line, count_words, mode_line, best_efforts_line, drill_line, moved_line, repaired_line, good_line, entry_line, range_line, property_line, table_fault_words, open_err_words, survey_err_words, no_log_words, no_table_words, no_family_words, refused_words, refusal_line, usage_line}
+use Rattle.rk_bytes.specs.Model.Lines.{line, item_line, batch_lines, edit_lines, families_line, row_line, answer_line, manifest_line, point_line, ok_line, count_words, mode_line, best_efforts_line, drill_line, moved_line, repaired_line, good_line, entry_line, range_line, property_line, table_fault_words, open_err_words, survey_err_words, no_log_words, no_table_words, no_family_words, refused_words, refusal_line, usage_line}
 
 -- lines, each with its newline, and the status
 pub record Output : Type 0 where
   pub lines : List (List ℕ)
   pub status : Status
 
--- lines one after another, and the whole text of an output
+-- lines one after another
 abbrev pub joined : List (List ℕ) → List ℕ
 joined lines = flat_map (λ bytes. bytes) lines
 
+-- the whole text of an output
 abbrev pub text : Output → List ℕ
 text out = joined out.lines
 
@@ -50,17 +51,18 @@ exit_status SinkFault = 4
 exit_status Memory = 5
 exit_status NotFound = 6
 
--- lines that answer a command, and the line that refuses it
+-- the lines that answer a command
 abbrev pub written : List (List ℕ) → Output
 written lines = record { lines = lines; status = Done }
 
+-- the line that refuses a command
 abbrev pub refused : List ℕ → Output
 refused why = record { lines = refusal_line why ∷ []; status = Refused }
 
 -- what is written of what was found, or the refusal
-abbrev pub unless_refused : {A F : Type 0} → (F → List ℕ) → (A → Output) → Result A F → Output
-unless_refused words write (Ok one) = write one
-unless_refused words write (Err why) = refused (words why)
+abbrev pub written_or_refused : {A F : Type 0} → (F → List ℕ) → (A → Output) → Result A F → Output
+written_or_refused words write (Ok one) = write one
+written_or_refused words write (Err why) = refused (words why)
 
 -- the line of an item of a log and, of a record, the lines of its payload
 abbrev pub item_lines : List ℕ → (List ℕ → List (List ℕ)) → Item → List (List ℕ)
@@ -72,12 +74,13 @@ abbrev pub dump_wal_output : ℕ → Bool → Option (List ℕ) → Output
 dump_wal_output n hex None = refused (no_log_words n)
 dump_wal_output n hex (Some bytes) = written (flat_map (item_lines (codes "record") (batch_lines hex)) (log_items n bytes))
 
--- the bytes of the manifest that CURRENT names, and the version that it amounts to
+-- the bytes of the manifest that CURRENT names
 abbrev pub manifest_file : Files → Result (List ℕ) OpenErr
 manifest_file files = do
   number ← named_manifest files
   ok_or (files (manifest_name number)) (NoManifest number)
 
+-- the version that it amounts to
 abbrev pub manifest_version : Files → Result Version OpenErr
 manifest_version files = do
   number ← named_manifest files
@@ -85,11 +88,11 @@ manifest_version files = do
 
 -- `manifest_dump`: the items of the manifest, with its edits
 abbrev pub manifest_dump_output : Bool → Files → Output
-manifest_dump_output hex files = unless_refused open_err_words (λ bytes. written (flat_map (item_lines (codes "edit") (edit_lines hex)) (log_items 0 bytes))) (manifest_file files)
+manifest_dump_output hex files = written_or_refused open_err_words (λ bytes. written (flat_map (item_lines (codes "edit") (edit_lines hex)) (log_items 0 bytes))) (manifest_file files)
 
 -- `families`: the families of the last version
 abbrev pub families_output : Files → Output
-families_output files = unless_refused open_err_words (λ version. written (map family_line version.families)) (manifest_version files)
+families_output files = written_or_refused open_err_words (λ version. written (map families_line version.families)) (manifest_version files)
 
 -- what is asked of a good table
 abbrev pub table_lines : SstPart → Bool → Good → List (List ℕ)
@@ -100,7 +103,7 @@ table_lines sst_part.Properties hex good = map (property_line hex) good.table.pr
 -- `sst`: one table
 abbrev pub sst_output : ℕ → SstPart → Bool → Option (List ℕ) → Output
 sst_output n part hex None = refused (no_table_words n)
-sst_output n part hex (Some bytes) = unless_refused (table_fault_words n) (λ good. written (table_lines part hex good)) (table_status bytes)
+sst_output n part hex (Some bytes) = written_or_refused (table_fault_words n) (λ good. written (table_lines part hex good)) (table_status bytes)
 
 -- the state that a directory is opened to
 abbrev pub state_of : How → Directory → Result State OpenErr
@@ -112,15 +115,15 @@ state_of how.Best d = do
   Ok best.state
 
 -- what is written of a live family, which is the default one where none is named
-abbrev pub of_family : Option (List ℕ) → (ℕ → Output) → State → Output
-of_family named write state =
+abbrev pub for_family : Option (List ℕ) → (ℕ → Output) → State → Output
+for_family named write state =
     let name = unwrap_or named (codes "default") in
     elim (family_named state name) [ Some id ↦ write id | None ↦ refused (no_family_words name) ]
 
 -- `scan`: the rows of a family between two keys
 abbrev pub scan_output : Option (List ℕ) → Option KeyWord → Option KeyWord → Bool → Result State OpenErr → Output
 scan_output named from to hex opened =
-    unless_refused open_err_words (λ state. of_family named (λ id. written (map (row_line hex) (rows state id (option_map key_bytes from) (option_map key_bytes to)))) state) opened
+    written_or_refused open_err_words (λ state. for_family named (λ id. written (map (row_line hex) (rows state id (option_map key_bytes from) (option_map key_bytes to)))) state) opened
 
 -- the status of the answer for one key
 abbrev pub answer_status : Answer → Status
@@ -129,7 +132,7 @@ answer_status _ = Done
 
 -- `get`: the answer for one key of a family
 abbrev pub get_output : KeyWord → Option (List ℕ) → Bool → Result State OpenErr → Output
-get_output key named hex opened = unless_refused open_err_words (λ state. of_family named (λ id.
+get_output key named hex opened = written_or_refused open_err_words (λ state. for_family named (λ id.
     let shown = answer state id (key_bytes key) in record { lines = answer_line hex shown ∷ []; status = answer_status shown }) state) opened
 
 -- the line of a state's counts, which are at most 2 ^ 64 - 1
@@ -138,13 +141,13 @@ counts_line state = ok_line (length state.families) (min (sum (map (λ line. lin
 
 -- `check`: what is opened, and by best efforts how far
 abbrev pub check_output : How → Directory → Output
-check_output (how.Normal mode) d = unless_refused open_err_words (λ opened. written (counts_line opened.state ∷ [])) (open_directory mode d)
+check_output (how.Normal mode) d = written_or_refused open_err_words (λ opened. written (counts_line opened.state ∷ [])) (open_directory mode d)
 check_output how.Best d =
-    unless_refused open_err_words (λ best. written (manifest_line best.manifest best.units ∷ map point_line best.points ++ counts_line best.state ∷ [])) (best_directory d)
+    written_or_refused open_err_words (λ best. written (manifest_line best.manifest best.units ∷ map point_line best.points ++ counts_line best.state ∷ [])) (best_directory d)
 
 -- `repair`: what is moved, and its counts
 abbrev pub repair_output : Result Report SurveyErr → Output
-repair_output answered = unless_refused survey_err_words (λ report. written (map moved_line report.moved ++ repaired_line report ∷ [])) answered
+repair_output answered = written_or_refused survey_err_words (λ report. written (map moved_line report.moved ++ repaired_line report ∷ [])) answered
 
 -- The salvage of a directory as a state, of which records and keys are counted: its families have no log
 -- number and no file.
@@ -155,10 +158,11 @@ salvage_state d = record {
   tombs = uncut_tombs d;
 }
 
--- how many records and keys a state has, or why there is none
+-- how many records and keys a state has
 abbrev pub state_counts : State → List ℕ
 state_counts state = count_words (record_count state) (key_count state)
 
+-- the same of a directory that was opened, or why it wasn't
 abbrev pub opened_counts : Result State OpenErr → List ℕ
 opened_counts (Ok state) = state_counts state
 opened_counts (Err why) = refused_words (open_err_words why)

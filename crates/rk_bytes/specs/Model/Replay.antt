@@ -24,7 +24,7 @@ use Rattle.rk_bytes.specs.Model.Numbers.{fixed_of, prefixed_of, in_turn}
 use Rattle.rk_bytes.specs.Model.Checksums.{pieces, crc_bit, crc_bits, crc_bytes, crc32c}
 use Rattle.rk_bytes.specs.Model.LogMarks.{found, block_len, marks_from, fragment_found, blocks_marks, log_marks}
 use Rattle.rk_bytes.specs.Model.LogItems.{Item, rec, gap, end, log_items}
-use Rattle.rk_bytes.specs.Model.WriteBatch.{Batch, changes, change_count, batch_of}
+use Rattle.rk_bytes.specs.Model.WriteBatch.{Batch, change, changes, change_count, batch_of}
 use Rattle.rk_bytes.specs.Model.Manifest.{has_id}
 
 -- a log's file
@@ -48,11 +48,13 @@ pub data Finding : Type 0 where
   stale_end : Finding
   clean_end : Finding
 
+-- what a record at this place is, by how it reads as a batch
 abbrev pub finding_of_record : ℕ → Result Batch BatchFault → Finding
 finding_of_record place (Ok read) = batch read
 finding_of_record place (Err (UnsupportedTag tag)) = unsupported (Tag tag)
 finding_of_record place (Err why) = damage (bad_batch why) place
 
+-- what an item is
 abbrev pub finding : Item → Finding
 finding (rec payload place) = finding_of_record place (batch_of payload)
 finding (gap why place) = damage (Gap why) place
@@ -71,6 +73,7 @@ pub record Findings : Type 0 where
   pub log : ℕ
   pub found : List Finding
 
+-- what replay finds in a log's file
 abbrev pub findings : Log → Findings
 findings log = record { log = log.number; found = map finding (log_items log.number log.bytes) }
 
@@ -102,10 +105,12 @@ is_stop mode _ = false
 abbrev pub front : Mode → Findings → List Finding
 front mode log = take_while (λ one. not (is_stop mode one)) log.found
 
+-- the batch, where it is one
 abbrev pub batch_in : Finding → Option Batch
 batch_in (batch read) = Some read
 batch_in _ = None
 
+-- the batches of a log that counts: those before its first stop
 abbrev pub batches : Mode → Findings → List Batch
 batches mode log = filter_map batch_in (front mode log)
 
@@ -114,6 +119,7 @@ pub record Stop : Type 0 where
   pub log : ℕ
   pub at : Finding
 
+-- the first stop in a log
 abbrev pub stop_in : Mode → Findings → Option Stop
 stop_in mode log = option_map (λ one. record { log = log.log; at = one }) (find (is_stop mode) log.found)
 
@@ -121,10 +127,11 @@ stop_in mode log = option_map (λ one. record { log = log.log; at = one }) (find
 abbrev pub stop_after : Mode → List Findings → Option Stop
 stop_after mode logs = unwrap_or (last_or None (map (stop_in mode) logs)) None
 
--- the sequence number after a batch, and the one that is expected after batches
+-- the sequence number after a batch
 abbrev pub next_sequence : Batch → ℕ
 next_sequence read = read.sequence + change_count read.parts
 
+-- the one that is expected after batches, each of which was reached
 abbrev pub expected_after : ℕ → List Batch → ℕ
 expected_after before read = unwrap_or (last_or None (map next_sequence read)) before
 
@@ -136,11 +143,12 @@ expected_in mode version logs = expected_after (unwrap_or version.last_sequence 
 abbrev pub goes_on : ℕ → Findings → Bool
 goes_on expected log = list_any (λ read. read.sequence == expected) (filter_map batch_in (take 1 log.found))
 
--- The logs that count: each, but where replay is stopped only one that goes on.
+-- Logs that count, and this one if it counts as well: each does, but where replay is stopped only one that goes on.
 abbrev pub count_log : Mode → Version → List Findings → Findings → List Findings
 count_log mode version before log =
     if is_some (stop_after mode before) && not (goes_on (expected_in mode version before) log) then before else before ++ log ∷ []
 
+-- the logs that count
 abbrev pub counted : Mode → Version → List Findings → List Findings
 counted mode version logs = fold (count_log mode version) [] logs
 
@@ -152,12 +160,13 @@ is_wanted version log r = list_any (λ live. has_id r.family live && nat_le live
 abbrev pub admitted : Mode → Version → Findings → List Record
 admitted mode version log = filter (is_wanted version log.log) (flat_map (λ read. changes read.parts) (batches mode log))
 
--- why a log is refused
+-- why a finding is refused
 abbrev pub refusal : Mode → ℕ → Finding → Option WalErr
 refusal mode log (damage why place) = if is_refused mode why then Some (Corrupt log place why) else None
 refusal mode log (unsupported what) = Some (UnsupportedLog log what)
 refusal mode log _ = None
 
+-- the reasons for which a log that counts is refused, in the order of its items
 abbrev pub refusals : Mode → Findings → List WalErr
 refusals mode log = filter_map (refusal mode log.log) (front mode log)
 
@@ -171,6 +180,7 @@ abbrev pub ahead : Version → ℕ → Finding → List WalErr
 ahead version log (damage why place) = map (λ live. FamilyAhead live.id log) (filter (is_ahead log) version.families)
 ahead version log _ = []
 
+-- the families that are ahead of where replay stopped
 abbrev pub ahead_after : Version → Option Stop → List WalErr
 ahead_after version None = []
 ahead_after version (Some stop) = ahead version stop.log stop.at
@@ -291,7 +301,17 @@ of_a_log_of_older_records : replay_in Absolute (two_families 0) (record { number
 unfolding replay_in two_families table_4 two_puts put_batch log_record
 of_a_log_of_older_records = refl
 
--- an earlier life of log 5 stops replay, and no family is ahead of it
-of_a_stale_end : replay_counted PointInTime (two_families 8) (record { log = 5; found = stale_end ∷ [] } ∷ []) ≡ Ok (record { records = []; expected = 1; stopped = Some 5 })
-unfolding two_families table_4
-of_a_stale_end = refl
+-- what is found in three logs, each with one put, of which the first ends at an earlier life of its file
+stale_logs : List Findings
+unfolding put_of
+stale_logs =
+    record { log = 5; found = batch (record { sequence = 1; parts = change 12 (put_of 1 (codes "a") []) ∷ [] }) ∷ stale_end ∷ [] }
+    ∷ record { log = 6; found = batch (record { sequence = 9; parts = change 12 (put_of 9 (codes "b") []) ∷ [] }) ∷ clean_end ∷ [] }
+    ∷ record { log = 7; found = batch (record { sequence = 2; parts = change 12 (put_of 2 (codes "c") []) ∷ [] }) ∷ clean_end ∷ [] } ∷ []
+
+-- An earlier life of log 5 stops replay, and no family is ahead of it. Log 6 doesn't go on, and log 7 does.
+of_stale_ends : map (λ logs. replay_counted PointInTime (two_families 8) (counted PointInTime (two_families 8) logs)) (take 1 stale_logs ∷ take 2 stale_logs ∷ stale_logs ∷ [])
+    ≡ replicate 2 (Ok (record { records = put_of 1 (codes "a") [] ∷ []; expected = 2; stopped = Some 5 }))
+    ++ Ok (record { records = put_of 1 (codes "a") [] ∷ put_of 2 (codes "c") [] ∷ []; expected = 3; stopped = None }) ∷ []
+unfolding two_families table_4 stale_logs put_of
+of_stale_ends = refl

@@ -1,7 +1,7 @@
 -- Salvage: the records that a directory's tables and logs still hold, whatever its manifests say
 -- (RocksDB's wiki, "RocksDB Repairer"; db/repair.cc). What is taken and in which order, and the refusals, are
 -- this project's own rules.
-use Rattle.std.specs.Prelude.{◌≡◌, ℕ, zero, suc, ◌+◌, ◌^◌, Bool, true, false, not, ◌&&◌, ◌||◌, List, [], ◌∷◌, ◌++◌, length, map, flat_map, filter, filter_map, reverse, fold, min, max, sum_by, replicate, slice_get, nat_lt, nat_le, ◌==◌, if◌then◌else◌, Option, Some, None, option_map, unwrap_or, is_some, Result, Ok, Err, bytes_eq, codes, refl}
+use Rattle.std.specs.Prelude.{◌≡◌, ℕ, zero, suc, ◌+◌, ◌^◌, Bool, true, false, not, ◌&&◌, ◌||◌, List, [], ◌∷◌, ◌++◌, length, map, flat_map, filter, filter_map, fold, min, max, sum_by, replicate, slice_get, nat_lt, nat_le, ◌==◌, if◌then◌else◌, Option, Some, None, option_map, unwrap_or, is_some, Result, Ok, Err, bytes_eq, codes, refl}
 use Rattle.std.specs.List.{list_any, reduce, find as first_that}
 use Rattle.std.specs.Fmt.{digits}
 use Rattle.std.specs.FinMap.{entries, values}
@@ -42,7 +42,7 @@ use Rattle.rk_bytes.specs.Model.VersionEdit.{added_in, edit_fields}
 use Rattle.rk_bytes.specs.declared.model.view.Tomb.{Tomb}
 use Rattle.rk_bytes.specs.Model.KeyView.{State, tomb_of, is_covered}
 use Rattle.rk_bytes.specs.Model.Opening.{in_order, range_record}
-use Rattle.rk_bytes.specs.Model.Records.{Slot, slot_of, slot_cmp, end_of, RecordMap, last_records}
+use Rattle.rk_bytes.specs.Model.Records.{Slot, slot_of, slot_cmp, end_of, RecordMap, slotted, last_records}
 
 -- the value of an answer, or an empty list
 abbrev pub list_or_none : {A F : Type 0} → Result (List A) F → List A
@@ -164,12 +164,13 @@ found_table file status = record {
   part = elim (is_damaged status) [ true ↦ table_part file.1 | false ↦ None ];
 }
 
--- The files of a directory as they are found, with the tables, and the logs with their items, in rising number.
+-- The files of a directory as they are found: all, the tables, and the logs with their items.
 pub record FoundFiles : Type 0 where
   pub files : Files
   pub tables : List TableFile
   pub logs : List (ℕ × List Item)
 
+-- the files as they are found, tables and logs in rising number
 abbrev pub found_files : Files → FoundFiles
 found_files files = record {
   files = files;
@@ -291,7 +292,7 @@ placed (entry ∷ entries) = put slot_cmp entry.0 entry.1 (placed entries)
 
 -- the entries of the map of a list's last records, in their order (law `records_in_order`)
 abbrev pub last_placed : List Record → List (Slot × Record)
-last_placed records = placed (map (λ r. (slot_of r, r)) (reverse records))
+last_placed records = placed (slotted records)
 
 -- the last record in each slot of a list, in the order of the slots
 abbrev pub last_in_order : List Record → List Record
@@ -393,6 +394,7 @@ pub record Salvaged : Type 0 where
   pub records : RecordMap
   pub remainder : List Record
 
+-- what a salvage of files that are found is
 abbrev pub salvaged : FoundFiles → Salvaged
 salvaged found = record {
   greatest = greatest_number found.files;
@@ -427,17 +429,19 @@ salvage_of d = unless_refused salvaged (found_files (entries d))
 unfoldable pub refuses_file : Directory → Bool
 refuses_file d = is_some (refused_file (found_files (entries d)))
 
--- Of a directory of which no table and no log is refused: its known families, the records that are admitted, those
--- of the kept tables alone, and the remainder.
+-- Of a directory of which no table and no log is refused, whatever its numbers and lengths are: its known families.
 unfoldable pub salvage_families : Directory → List FamilyName
 salvage_families d = known_families (found_files (entries d))
 
+-- the records that are admitted
 unfoldable pub salvage_records : Directory → RecordMap
 salvage_records d = last_records (taken_records (found_files (entries d)))
 
+-- the records of the kept tables alone
 unfoldable pub tables_alone : Directory → RecordMap
 tables_alone d = last_records (kept_records (found_files (entries d)))
 
+-- the records that are admitted and that the kept tables alone don't hold with the same value
 unfoldable pub remainder : Directory → List Record
 remainder d = remainder_of (found_files (entries d))
 
@@ -484,10 +488,11 @@ report found = let salvage = salvaged found in record {
   records = length (last_in_order (taken_records found));
 }
 
--- the report of a repair of these files, and of the directory, or the refusal
+-- the report of a repair of these files, or the first refusal
 unfoldable pub report_of_files : Files → Result Report SurveyErr
 report_of_files files = unless_refused report (found_files files)
 
+-- what a repair of the directory reports, or the first refusal
 abbrev pub repair_report : Directory → Result Report SurveyErr
 repair_report d = report_of_files (entries d)
 

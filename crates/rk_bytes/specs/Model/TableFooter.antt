@@ -107,10 +107,6 @@ version_before_checksum : footer_of (newer 4 6) ≡ Err (UnsupportedVersion 6)
 unfolding footer_of newer
 version_before_checksum = refl
 
-with_a_byte_less : footer_of (drop 1 (newer 3 5)) ≡ Err FooterShort
-unfolding footer_of newer
-with_a_byte_less = refl
-
 place_of_a_newer_footer : footer_start (0 ∷ 0 ∷ newer 3 5) ≡ 2
 unfolding newer
 place_of_a_newer_footer = refl
@@ -128,16 +124,23 @@ of_bad_handles : map footer_of ((replicate 40 0xFF ++ drop 40 legacy) ∷ (26 �
 unfolding footer_of legacy
 of_bad_handles = refl
 
-of_no_footer : map footer_of (replicate 48 0 ∷ newer 4 5 ∷ newer 3 0 ∷ []) ≡ Err BadMagic ∷ Err (UnsupportedChecksum 4) ∷ Err (UnsupportedVersion 0) ∷ []
+-- with a byte less, without a magic number, with checksum kind 4, and with version 0
+of_no_footer : map footer_of (drop 1 (newer 3 5) ∷ replicate 48 0 ∷ newer 4 5 ∷ newer 3 0 ∷ [])
+    ≡ Err FooterShort ∷ Err BadMagic ∷ Err (UnsupportedChecksum 4) ∷ Err (UnsupportedVersion 0) ∷ []
 unfolding footer_of newer
 of_no_footer = refl
+
+of_each_kind : map (λ kind. footer_of (newer kind 1) >>= λ footer. Ok footer.sum) (0 ∷ 1 ∷ 2 ∷ 3 ∷ []) ≡ Ok NoSum ∷ Ok Crc32c ∷ Ok Xxh32 ∷ Ok Xxh64 ∷ []
+unfolding footer_of newer
+of_each_kind = refl
 
 -- the block of this type whose one byte stands at 1, with the four bytes of its sum
 one_byte : ℕ → List ℕ → SumKind → Result (List ℕ) TrailerFault
 unfolding checked_block crc32c crc_bytes crc_bits crc_bit xxh32 xxh32_mixed xxh32_with_rest xxh64 xxh64_mixed xxh64_with_rest pieces
 one_byte type_byte stored sum = checked_block (9 ∷ 7 ∷ type_byte ∷ stored) (record { offset = 1; size = 1 }) sum
 
-of_each_sum : one_byte 0 (0xf1 ∷ 0 ∷ 0xb2 ∷ 31 ∷ []) Crc32c ∷ one_byte 0 (0x79 ∷ 39 ∷ 0xef ∷ 78 ∷ []) Xxh32 ∷ one_byte 0 (0xbc ∷ 87 ∷ 0xc0 ∷ 0x78 ∷ []) Xxh64 ∷ one_byte 0 (1 ∷ 2 ∷ 3 ∷ 4 ∷ []) NoSum ∷ []
+of_each_sum : one_byte 0 (0xf1 ∷ 0 ∷ 0xb2 ∷ 31 ∷ []) Crc32c ∷ one_byte 0 (0x79 ∷ 39 ∷ 0xef ∷ 78 ∷ []) Xxh32
+    ∷ one_byte 0 (0xbc ∷ 87 ∷ 0xc0 ∷ 0x78 ∷ []) Xxh64 ∷ one_byte 0 (1 ∷ 2 ∷ 3 ∷ 4 ∷ []) NoSum ∷ []
     ≡ replicate 4 (Ok (7 ∷ []))
 unfolding one_byte
 of_each_sum = refl

@@ -412,10 +412,12 @@ unsummed : List ℕ → ℕ → List ℕ
 unsummed bytes size =
     bytes ++ (0 ∷ 0 ∷ size ∷ 0 ∷ size ∷ []) ++ replicate 36 0 ++ (5 ∷ 0 ∷ 0 ∷ 0 ∷ 0xf7 ∷ 0xcf ∷ 0xf4 ∷ 0x85 ∷ 0xb7 ∷ 0x41 ∷ 0xe2 ∷ 0x88 ∷ [])
 
--- the metaindex with a byte of its trailer missing, compressed, with a hash index, and without a restart
+-- the metaindex with a byte of its trailer missing, compressed, with a hash index, without a restart, and with a
+-- value of one byte
 of_the_metaindex : map computed (
     unsummed (0 ∷ 0 ∷ 0 ∷ 0 ∷ 1 ∷ 0 ∷ 0 ∷ 0 ∷ 0 ∷ 0 ∷ 0 ∷ 0 ∷ []) 8 ∷ unsummed (0 ∷ 0 ∷ 0 ∷ 0 ∷ 1 ∷ 0 ∷ 0 ∷ 0 ∷ 7 ∷ 0 ∷ 0 ∷ 0 ∷ 0 ∷ []) 8
-    ∷ unsummed (0 ∷ 0 ∷ 0 ∷ 0 ∷ 1 ∷ 0 ∷ 0 ∷ 0x80 ∷ 0 ∷ 0 ∷ 0 ∷ 0 ∷ 0 ∷ []) 8 ∷ unsummed (replicate 9 0) 4 ∷ [])
-    ≡ Err (damaged OutOfFile 0) ∷ Err (unsupported (Compressed 7)) ∷ Err (unsupported HashIndex) ∷ Err (damaged Block 0) ∷ []
+    ∷ unsummed (0 ∷ 0 ∷ 0 ∷ 0 ∷ 1 ∷ 0 ∷ 0 ∷ 0x80 ∷ 0 ∷ 0 ∷ 0 ∷ 0 ∷ 0 ∷ []) 8 ∷ unsummed (replicate 9 0) 4
+    ∷ unsummed (0 ∷ 1 ∷ 1 ∷ codes "a" ++ 7 ∷ 0 ∷ 0 ∷ 0 ∷ 0 ∷ 1 ∷ replicate 8 0) 13 ∷ [])
+    ≡ Err (damaged OutOfFile 0) ∷ Err (unsupported (Compressed 7)) ∷ Err (unsupported HashIndex) ∷ Err (damaged Block 0) ∷ Err (damaged BadHandle 0) ∷ []
 unfolding computed unsummed
 of_the_metaindex = refl

@@ -248,3 +248,18 @@ of_a_prepared_transaction = refl
 of_eleven_bytes : batch_of (replicate 11 0) ≡ Err TooSmall
 unfolding batch_of
 of_eleven_bytes = refl
+
+-- a record of family 0 or 3
+of_family : ℕ → ℕ → Kind → List ℕ → Record
+of_family family sequence kind value = record { family = family; key = codes "k"; sequence = sequence; kind = kind; value = value }
+
+-- a merge, a single deletion and a range deletion, each in the default family and in another
+of_other_kinds : batch_of ((1 ∷ 0 ∷ 0 ∷ 0 ∷ 0 ∷ 0 ∷ 0 ∷ 0 ∷ 6 ∷ 0 ∷ 0 ∷ 0 ∷ []) ++ (2 ∷ 1 ∷ codes "k" ++ 1 ∷ codes "m") ++ (6 ∷ 3 ∷ 1 ∷ codes "k" ++ 1 ∷ codes "m") ++ (7 ∷ 1 ∷ codes "k") ++ (8 ∷ 3 ∷ 1 ∷ codes "k")
+    ++ (15 ∷ 1 ∷ codes "k" ++ 1 ∷ codes "z") ++ (14 ∷ 3 ∷ 1 ∷ codes "k" ++ 1 ∷ codes "z")) ≡ Ok (record {
+      sequence = 1;
+      parts =
+          change 12 (of_family 0 1 Merge (codes "m")) ∷ change 17 (of_family 3 2 Merge (codes "m")) ∷ change 23 (of_family 0 3 SingleDeletion [])
+          ∷ change 26 (of_family 3 4 SingleDeletion []) ∷ change 30 (of_family 0 5 RangeDeletion (codes "z")) ∷ change 35 (of_family 3 6 RangeDeletion (codes "z")) ∷ [];
+    })
+unfolding batch_of in_turn of_family
+of_other_kinds = refl

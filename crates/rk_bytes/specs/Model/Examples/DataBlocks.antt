@@ -1,11 +1,12 @@
 -- Data blocks, range deletions and index blocks that are read, or refused.
 use Rattle.std.specs.Prelude.{◌≡◌, ℕ, ◌+◌, Bool, true, false, List, [], ◌∷◌, ◌++◌, length, map, Option, Some, None, Result, Ok, Err, codes, refl}
 use Rattle.rk_bytes.specs.declared.model.block.IndexEntry.{IndexEntry}
+use Rattle.rk_bytes.specs.declared.model.block.Property.{Property}
 use Rattle.rk_bytes.specs.declared.model.block.RangeDel.{RangeDel}
 use Rattle.rk_bytes.specs.declared.model.table.TableWhy.TheVariants.{Block, BadKey, BadOrder, BadSeparator}
 use Rattle.rk_bytes.specs.declared.model.table.TableWhat.TheVariants.{RecordKind}
-use Rattle.rk_bytes.specs.Model.BlockEntries.{block_entries, entries_after}
-use Rattle.rk_bytes.specs.Model.TableStatus.{TableFault, damaged, unsupported, BlockReader, held, range_status, range_list, data_records}
+use Rattle.rk_bytes.specs.Model.BlockEntries.{block_entries, entries_after, index_entries}
+use Rattle.rk_bytes.specs.Model.TableStatus.{TableFault, damaged, unsupported, BlockReader, held, range_status, range_list, index_at, data_records}
 
 -- a block of these entries with one restart, at 0
 one_restart : List ℕ → List ℕ
@@ -85,3 +86,16 @@ of_other_records : map ranges_of (entry_of (codes "b") 9 1 ∷ entry_of (codes "
     ≡ Err (damaged BadKey 3) ∷ Err (damaged BadKey 3) ∷ Err (damaged BadKey 3) ∷ Err (damaged Block 3) ∷ []
 unfolding ranges_of entry_of
 of_other_records = refl
+
+-- an index at 3 with one whole handle, at a separator of seven bytes: an internal key by the properties, and a user key
+of_a_short_separator : map (λ properties. index_at (of_entries (0 ∷ 7 ∷ 2 ∷ codes "abcdefg" ++ 0 ∷ 20 ∷ [])) properties (record { offset = 3; size = 20 })) (
+    [] ∷ (record { name = codes "rocksdb.index.key.is.user.key"; value = 1 ∷ [] } ∷ []) ∷ []) ≡ Err (damaged BadKey 3) ∷ Ok (index_of 0 (codes "abcdefg") ∷ []) ∷ []
+unfolding index_entries block_entries entries_after of_entries index_of
+of_a_short_separator = refl
+
+-- Of two records, the last isn't above the separator, and the first is above the one before.
+of_two_records : of_one_block true (Some (codes "a")) (codes "c") (entry_of (codes "b") 5 1 ++ entry_of (codes "c") 5 1) ∷ of_one_block true None (codes "b") (entry_of (codes "b") 5 1 ++ entry_of (codes "c") 5 1)
+    ∷ of_one_block true (Some (codes "b")) (codes "c") (entry_of (codes "b") 5 1 ++ entry_of (codes "c") 5 1) ∷ []
+    ≡ Ok (codes "b" ∷ codes "c" ∷ []) ∷ Err (damaged BadSeparator 3) ∷ Err (damaged BadSeparator 3) ∷ []
+unfolding of_one_block entry_of
+of_two_records = refl

@@ -35,17 +35,20 @@ use Rattle.rk_bytes.specs.Model.Records.{RecordMap, last_records}
 use Rattle.rk_bytes.specs.Model.Replay.{replay}
 use Rattle.rk_bytes.specs.Model.Opening.{Opened, logs_of, table_file, open_files, open_directory}
 
--- A directory as a list of its files in the order of their names, and what it is opened to, computed.
+-- a directory as a list of its files
 abbrev pub FileList : Type 0
 FileList = List (List ℕ × List ℕ)
 
+-- the files stand in the order of their names
 abbrev pub in_name_order : FileList → Type 0
 in_name_order files = T (is_sorted (slice_cmp nat_cmp) files)
 
+-- what the directory is opened to, computed
 pub opened : Mode → FileList → Result Opened OpenErr
 unfolding open_files table_file replay log_marks blocks_marks marks_from found fragment_found block_len pieces crc32c crc_bytes crc_bits crc_bit batch_of in_turn name_of digits current_manifest edits_of edit_fields after_customs synced_sizes_at parted_units steps_in_order edit_step overlap unit_step version_after table_status table_with footer_of checked_block internal_key block_entries entries_after property_list range_list index_entries
 opened mode files = open_files mode (λ name. find (slice_cmp nat_cmp) name files) (logs_of files)
 
+-- it is what the definition says
 pub opens : (mode : Mode) (files : FileList) → in_name_order files → open_directory mode (from_sorted files) ≡ opened mode files
 unfolding opened
 opens mode files order = λ i. open_files mode (λ name. get-from_sorted (slice_cmp nat_cmp) files name order i) (logs_of (entries-from_sorted (slice_cmp nat_cmp) files order i))
@@ -205,6 +208,7 @@ pub record Held : Type 0 where
   pub tombs : List Tomb
   pub top : ℕ
 
+-- what is looked at of what is opened
 abbrev held : Result Opened OpenErr → Result Held OpenErr
 held (Ok opened) = Ok (record { records = opened.state.records; tombs = opened.state.tombs; top = opened.top })
 held (Err why) = Err why
@@ -241,17 +245,18 @@ tracked : List ℕ → List (List ℕ × List ℕ) → FileList
 unfolding current manifest log_record
 tracked more logs = logs ++ current (codes "MANIFEST-000002\n") ∷ manifest (log_record 0x5f01a445 (0x87 ∷ 0x40 ∷ 4 ∷ 3 ∷ 2 ∷ 48 ∷ 1 ∷ []) ++ more) ∷ []
 
--- In the last of them a later edit forgets the logs below 4.
+-- In the last two of them a later edit forgets the logs below 4, or says that 4 is the first log that is needed.
 tracked_logs : List FileList
 unfolding tracked log_3 log_record
 tracked_logs =
-    tracked [] (log_3 48 ∷ []) ∷ tracked [] (log_3 47 ∷ []) ∷ tracked [] [] ∷ tracked (log_record 0x1c66808c (0x88 ∷ 0x40 ∷ 1 ∷ 4 ∷ [])) [] ∷ []
+    tracked [] (log_3 48 ∷ []) ∷ tracked [] (log_3 47 ∷ []) ∷ tracked [] [] ∷ tracked (log_record 0x1c66808c (0x88 ∷ 0x40 ∷ 1 ∷ 4 ∷ [])) []
+    ∷ tracked (log_record 0xd06d36cd (2 ∷ 4 ∷ [])) (log_3 47 ∷ []) ∷ []
 
 of_tracked_logs : map held (open_all tracked_logs)
     ≡ Ok (record { records = last_records (put_of 1 (codes "a") (codes "1") ∷ put_of 2 (codes "b") (codes "2") ∷ []); tombs = []; top = 2 })
-    ∷ Err (ShortLog 3 48 47) ∷ Err (MissingLog 3) ∷ Ok (record { records = last_records []; tombs = []; top = 0 }) ∷ []
+    ∷ Err (ShortLog 3 48 47) ∷ Err (MissingLog 3) ∷ replicate 2 (Ok (record { records = last_records []; tombs = []; top = 0 }))
 unfolding all_opened opened tracked_logs tracked log_3 current manifest log_record put_batch put_of
-of_tracked_logs = λ i. map held (opens_all tracked_logs (tt, (tt, (tt, (tt, tt)))) i)
+of_tracked_logs = λ i. map held (opens_all tracked_logs (tt, (tt, (tt, (tt, (tt, tt))))) i)
 
 -- A second family with table 4 and log number 8, and the logs 5 and 7, of which the second doesn't go on with the
 -- first.

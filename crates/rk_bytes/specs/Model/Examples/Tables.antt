@@ -1,6 +1,6 @@
 -- A table with a part of each kind: two data blocks, a range deletion, properties, and an index of user keys with
 -- delta-encoded handles. Its blocks aren't summed. Its bytes were made outside.
-use Rattle.std.specs.Prelude.{◌≡◌, ℕ, true, List, [], ◌∷◌, ◌++◌, take, drop, replicate, Some, Result, Ok, Err, codes, refl}
+use Rattle.std.specs.Prelude.{◌≡◌, ℕ, true, ◌+◌, List, [], ◌∷◌, ◌++◌, map, take, drop, replicate, Some, Result, Ok, Err, codes, refl}
 use Rattle.rk_bytes.specs.declared.model.table.SumKind.TheVariants.{NoSum}
 use Rattle.rk_bytes.specs.declared.model.table.TableWhy.TheVariants.{BadOrder, BadSeparator}
 use Rattle.rk_bytes.specs.declared.model.table.TableWhat.TheVariants.{Compressed}
@@ -24,10 +24,10 @@ second_block : List ℕ
 unfolding block_of
 second_block = block_of (0 ∷ 11 ∷ 1 ∷ codes "cat" ++ 1 ∷ 1 ∷ replicate 6 0 ++ codes "y")
 
--- at 79: the keys from `b` up to `y` deleted at 9
+-- at 79: the keys from `A` up to `y` deleted at 13
 range_block : List ℕ
 unfolding block_of
-range_block = block_of (0 ∷ 9 ∷ 1 ∷ codes "b" ++ 15 ∷ 9 ∷ replicate 6 0 ++ codes "y")
+range_block = block_of (0 ∷ 9 ∷ 1 ∷ codes "A" ++ 15 ∷ 13 ∷ replicate 6 0 ++ codes "y")
 
 -- at 105
 properties_block : List ℕ
@@ -60,13 +60,13 @@ computed : List ℕ → Result Good TableFault
 unfolding table_status table_with footer_of checked_block internal_key block_entries entries_after property_list range_list index_entries
 computed table = table_status table
 
--- The range deletion's end is the largest key.
+-- The range deletion's start is the smallest key, and its end the largest.
 of_a_table : computed whole_table ≡ Ok (record {
   table = record {
     family = 7;
     family_name = codes "seven";
     entries = 4;
-    ranges = record { start = codes "b"; end = codes "y"; sequence = 9 } ∷ [];
+    ranges = record { start = codes "A"; end = codes "y"; sequence = 13 } ∷ [];
     properties =
         record { name = codes "rocksdb.column.family.id"; value = 7 ∷ [] } ∷ record { name = codes "rocksdb.column.family.name"; value = codes "seven" }
         ∷ record { name = codes "rocksdb.comparator"; value = codes "leveldb.BytewiseComparator" } ∷ record { name = codes "rocksdb.index.key.is.user.key"; value = 1 ∷ [] }
@@ -74,9 +74,9 @@ of_a_table : computed whole_table ≡ Ok (record {
     index = record { separator = codes "ca"; block = record { offset = 0; size = 46 } } ∷ record { separator = codes "cat"; block = record { offset = 51; size = 23 } } ∷ [];
     user_keys = true;
     sum = NoSum;
-    smallest = Some (codes "a" ++ 1 ∷ 12 ∷ replicate 6 0);
+    smallest = Some (codes "A" ++ 15 ∷ 13 ∷ replicate 6 0);
     largest = Some (codes "y" ++ 15 ∷ replicate 7 0xFF);
-    top = 12;
+    top = 13;
     start = 382;
   };
   records =
@@ -86,17 +86,25 @@ of_a_table : computed whole_table ≡ Ok (record {
 unfolding computed whole_table
 of_a_table = refl
 
+-- the table with another byte at a place
+with_byte : ℕ → ℕ → List ℕ → List ℕ
+with_byte place b table = take place table ++ b ∷ drop (place + 1) table
+
 -- the second block's record at the user key "c`t", which is below the first separator
-below_the_separator_before : computed (take 55 whole_table ++ 0x60 ∷ drop 56 whole_table) ≡ Err (damaged BadSeparator 51)
-unfolding computed whole_table
+below_the_separator_before : computed (with_byte 55 0x60 whole_table) ≡ Err (damaged BadSeparator 51)
+unfolding computed whole_table with_byte
 below_the_separator_before = refl
 
 -- `a` deleted at 13, after it was put at 12
-not_in_order : computed (take 18 whole_table ++ 13 ∷ drop 19 whole_table) ≡ Err (damaged BadOrder 0)
-unfolding computed whole_table
+not_in_order : computed (with_byte 18 13 whole_table) ≡ Err (damaged BadOrder 0)
+unfolding computed whole_table with_byte
 not_in_order = refl
 
--- the range deletions' block compressed
-of_a_compressed_block : computed (take 100 whole_table ++ 4 ∷ drop 101 whole_table) ≡ Err (unsupported (Compressed 4))
-unfolding computed whole_table
-of_a_compressed_block = refl
+-- Two blocks are compressed, each time in two ways: the first data block and the index, the index and the range
+-- deletions, the range deletions and the properties, the properties and the metaindex.
+in_their_order : map computed (
+    with_byte 46 1 (with_byte 377 2 whole_table) ∷ with_byte 377 2 (with_byte 100 3 whole_table) ∷ with_byte 100 3 (with_byte 295 4 whole_table)
+    ∷ with_byte 295 4 (with_byte 354 5 whole_table) ∷ [])
+    ≡ map (λ kind. Err (unsupported (Compressed kind))) (2 ∷ 3 ∷ 4 ∷ 5 ∷ [])
+unfolding computed whole_table with_byte
+in_their_order = refl

@@ -1,7 +1,7 @@
 use Rattle.std.proofs.Common.{◌≡◌, ℕ, Bool, true, false, ◌-◌, ◌/◌, ◌%◌, ◌<◌, ◌≤◌, List, ◌++◌, length, take, drop, refl, sym, ap, subst, ◌∙◌, arith, length-append, take-append-drop, cond}
 use Rattle.std.specs.Prelude.{Option, Some, None, Result, Ok, Err, nat_lt, ◌==◌, option_map, ok_or}
 use Rattle.std.proofs.Math.Seq.{take-append_seam, drop-append_seam}
-use borrow.Author.Tests.{le-ltb, ltb-false, eqb-true}
+use Rattle.std.proofs.lemmas.Bool.{le-ltb, ltb-false, eqb-true}
 use Rattle.rk_bytes.specs.declared.model.key.Kind.{Kind}
 use Rattle.rk_bytes.specs.declared.model.key.Kind.TheVariants.{Deletion, Value, Merge, SingleDeletion, RangeDeletion}
 use Rattle.rk_bytes.specs.declared.model.key.KeyFault.{KeyFault}

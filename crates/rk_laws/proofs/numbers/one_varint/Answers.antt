@@ -1,22 +1,12 @@
-use Rattle.std.proofs.Common.{ap, ◌∙◌}
-use Rattle.rk_bytes.specs.Model.Numbers.{varint32_at, varint64_at, prefixed_at}
-use Rattle.rk_laws.proofs.ReadingLemmas.{varint32_ok, varint32-append, varint64_ok, varint64-append, prefixed_ok, prefixed-append}
+use Rattle.rk_bytes.specs.Model.Numbers.{IsVarint32, IsVarint64, IsPrefixed, varint32_at, varint64_at, prefixed_at}
+use Rattle.rk_laws.proofs.Readers.{read-iff-spelled, exact_varint32, exact_varint64, exact_prefixed}
 use Rattle.rk_laws.proofs.numbers.one_varint.Goals as goal
 
 pub returns-clause-narrow : goal.returns-clause-narrow
-returns-clause-narrow c bytes rest n are = (
-  λ read. let (part, whole, is, are_after) = varint32_ok bytes (n, rest) are read in (part, is, whole),
-  λ spelled. let (part, is, whole) = spelled in ap varint32_at whole ∙ varint32-append part rest n is,
-)
+returns-clause-narrow c = read-iff-spelled varint32_at IsVarint32 exact_varint32
 
 pub returns-clause-wide : goal.returns-clause-wide
-returns-clause-wide c bytes rest n are = (
-  λ read. let (part, whole, is, are_after) = varint64_ok bytes (n, rest) are read in (part, is, whole),
-  λ spelled. let (part, is, whole) = spelled in ap varint64_at whole ∙ varint64-append part rest n is,
-)
+returns-clause-wide c = read-iff-spelled varint64_at IsVarint64 exact_varint64
 
 pub returns-clause-prefixed : goal.returns-clause-prefixed
-returns-clause-prefixed c bytes rest slice are = (
-  λ read. let (part, whole, is, are_after) = prefixed_ok bytes (slice, rest) are read in (part, is, whole),
-  λ spelled. let (part, is, whole) = spelled in ap prefixed_at whole ∙ prefixed-append part rest slice is,
-)
+returns-clause-prefixed c = λ bytes rest slice. read-iff-spelled prefixed_at IsPrefixed exact_prefixed bytes rest slice
