@@ -12,7 +12,10 @@ fn an_internal_key_is_made_and_read(rt: HostRuntime) -> Result<(), Fail> {
     let key = internal_key(rt.alloc(), b"a", 1, Kind::Value)?;
     assert_eq!(rt; key.as_slice(), PUT.as_slice());
     let greatest = internal_key(rt.alloc(), b"", TOP, Kind::RangeDeletion)?;
-    assert_eq!(rt; greatest.as_slice(), [15, 255, 255, 255, 255, 255, 255, 255].as_slice());
+    assert_eq!(rt;
+        greatest.as_slice(),
+        [15, 255, 255, 255, 255, 255, 255, 255].as_slice()
+    );
     match parse_key(&PUT) {
         Ok(parsed) => {
             assert_eq!(rt; parsed.user, b"a".as_slice());
