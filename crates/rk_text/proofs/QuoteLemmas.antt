@@ -62,11 +62,16 @@ drop_some xs n b after is = let left = ap length is in omega (arith, left, lengt
 get_or_of_drop : (xs : List ℕ) (n b : ℕ) (after : List ℕ) → drop n xs ≡ b ∷ after → get_or xs n 0 ≡ b
 get_or_of_drop xs n b after is = let place : n + 0 ≡ n = omega arith in sym (get_or-drop n xs 0 0 ∙ ap (λ i. get_or xs i 0) place) ∙ ap (λ ys. get_or ys 0 0) is
 
--- one byte more in hexadecimal
-pub encode_next : (bytes : List ℕ) (i b : ℕ) → i < length bytes → get_or bytes i 0 ≡ b → encode_lower (take (i + 1) bytes) ≡ encode_lower (take i bytes) ++ encode_lower (b ∷ [])
-encode_next bytes i b within is =
-    ap encode_lower (take_more bytes i 0 within) ∙ encode_with-append lower_digits (take i bytes) (get_or bytes i 0 ∷ [])
-    ∙ ap (λ byte. encode_lower (take i bytes) ++ encode_lower (byte ∷ [])) is
+-- what is spelled of the bytes of a chunk and of others
+pub hex_step : (start line next bytes rest chunk others : List ℕ) → start ++ encode_lower bytes ≡ line ++ encode_lower rest
+    → rest ≡ chunk ++ others → next ≡ line ++ encode_lower chunk → start ++ encode_lower bytes ≡ next ++ encode_lower others
+hex_step start line next bytes rest chunk others so_far parts is =
+    so_far ∙ ap (λ shown. line ++ shown) (ap encode_lower parts ∙ encode_with-append lower_digits chunk others)
+    ∙ sym (append_assoc line (encode_lower chunk) (encode_lower others)) ∙ ap (λ line. line ++ encode_lower others) (sym is)
+
+pub hex_end : (start line bytes rest : List ℕ) → start ++ encode_lower bytes ≡ line ++ encode_lower rest → rest ≡ [] → line ≡ start ++ encode_lower bytes
+unfolding encode_with
+hex_end start line bytes rest so_far none = sym (so_far ∙ ap (λ rest. line ++ encode_lower rest) none ∙ append-nil line)
 
 -- what is shown of bytes at whose front a run stands, and then a byte that doesn't stand for itself, and others
 pub shown_step : (start line bytes rest run after : List ℕ) (b : ℕ) → start ++ flat_map shown_byte bytes ≡ line ++ flat_map shown_byte rest

@@ -1,5 +1,5 @@
 //! The lines of write batches.
-ghost use Rattle.std.specs.Prelude.{◌≡◌, ◌++◌, OnOk};
+ghost use Rattle.std.specs.Prelude.{◌≡◌, ◌++◌, false, OnOk};
 ghost use Rattle.rk_bytes.specs.Model.WriteBatch.{change, log_bytes};
 ghost use Rattle.rk_bytes.specs.Model.Lines.{bad_line, batch_fault_words, change_word, change_value, key_at, part_line};
 ghost use Rattle.rk_batch.specs.Seen.{part_of};
@@ -71,8 +71,7 @@ impl Line {
     fn put_log_bytes(&mut self, bytes: &[u8]) -> Result<(), Memory>
         ensures { OnOk result (self.new ≡ self.old ++ part_line false (log_bytes 0 bytes.now)) }
     {
-        self.put(b"  log_bytes")?;
-        self.put_number(bytes.len() as u64)?;
+        self.put_with_number(b"  log_bytes", bytes.len() as u64)?;
         self.end()
     }
 
@@ -118,21 +117,21 @@ impl Line {
     {
         match fault {
             BatchFault::TooSmall => self.put(b"TooSmall"),
-            BatchFault::BadRecord(place) => {
-                self.put(b"BadRecord")?;
-                self.put_number(place)
-            }
+            BatchFault::BadRecord(place) => self.put_with_number(b"BadRecord", place),
             BatchFault::UnsupportedTag(tag) => {
-                self.put(b"UnsupportedTag")?;
-                self.put_number(u64::from(tag))
+                self.put_with_number(b"UnsupportedTag", u64::from(tag))
             }
-            BatchFault::WrongCount { stated, found } => {
-                self.put(b"WrongCount")?;
-                self.put_number(u64::from(stated))?;
-                self.put_number(found)
-            }
+            BatchFault::WrongCount { stated, found } => self.put_wrong_count(stated, found),
             BatchFault::SequenceTop => self.put(b"SequenceTop"),
         }
+    }
+
+    /// Puts the fault of a wrong count at the end.
+    fn put_wrong_count(&mut self, stated: u32, found: u64) -> Result<(), Memory>
+        ensures { OnOk result (self.new ≡ self.old ++ batch_fault_words (BatchFault.WrongCount stated found)) }
+    {
+        self.put_with_number(b"WrongCount", u64::from(stated))?;
+        self.put_number(found)
     }
 }
 

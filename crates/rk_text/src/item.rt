@@ -82,8 +82,7 @@ impl Line {
             EndKind::Torn => self.put(b"Torn"),
             EndKind::Stale => self.put(b"Stale"),
             EndKind::Unsupported(number) => {
-                self.put(b"Unsupported")?;
-                self.put_number(u64::from(number))
+                self.put_with_number(b"Unsupported", u64::from(number))
             }
         }
     }

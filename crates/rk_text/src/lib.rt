@@ -1,9 +1,13 @@
 //! The lines that the commands write, made in a buffer that serves for all of them.
 #![tactic(auto)]
 
+mod batch;
 mod item;
+mod key;
 mod line;
 mod quote;
 
 pub use item::item_line;
+pub use key::key_text;
 pub use line::Line;
+pub use quote::quoted;

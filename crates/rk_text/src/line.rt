@@ -77,6 +77,14 @@ impl Line {
         self.put_decimal(number)
     }
 
+    /// Puts the word, a space and the number at the end.
+    pub(crate) fn put_with_number(&mut self, word: &[u8], number: u64) -> Result<(), Memory>
+        ensures { OnOk result (self.new ≡ self.old ++ (word.now ++ then_number number)) }
+    {
+        self.put(word)?;
+        self.put_number(number)
+    }
+
     /// Ends the line.
     pub(crate) fn end(&mut self) -> Result<(), Memory>
         ensures { OnOk result (self.new ≡ line self.old) }

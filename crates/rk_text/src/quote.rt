@@ -1,11 +1,25 @@
 //! Bytes as they are shown: in hexadecimal, or between quotation marks.
-ghost use Rattle.std.specs.Prelude.{◌≡◌, ◌++◌, ◌∷◌, [], OnOk, flat_map, codes, take, drop, length, ◌≤◌};
+ghost use Rattle.std.specs.Prelude.{◌≡◌, ◌≢◌, ◌++◌, ◌∷◌, [], IfOk, OnOk, flat_map, codes, take, drop, length, ◌<◌, ◌≤◌};
 ghost use Rattle.std.specs.List.{prefix_len};
 ghost use Rattle.hex.specs.Hex.{encode_lower};
 ghost use Rattle.rk_bytes.specs.Model.Lines.{quoted, shown_byte, stands_for_itself};
 
 use crate::Line;
-use rk_bytes::Memory;
+use rk_bytes::{Bytes, Memory};
+use std::alloc::Global;
+
+/// How many bytes are spelled in hexadecimal at once.
+const CHUNK_LEN: usize = 32;
+
+/// Bytes as they are shown: in hexadecimal after `0x`, or between quotation marks. `Memory` comes only
+/// where memory runs out.
+pub fn quoted(alloc: Global, bytes: &[u8], hex: bool) -> Result<Bytes, Memory>
+    ensures { IfOk result (λ text. text ≡ quoted hex bytes.now) }
+{
+    let mut line = Line::new(alloc);
+    line.put_quoted(bytes, hex)?;
+    Ok(line.into_bytes())
+}
 
 impl Line {
     /// Puts the bytes at the end: in hexadecimal after `0x`, or between quotation marks.
@@ -22,14 +36,30 @@ impl Line {
         }
     }
 
-    /// Puts two digits for each byte at the end.
+    /// Puts two digits for each byte at the end, those of a chunk of bytes at once.
     fn put_hex(&mut self, bytes: &[u8]) -> Result<(), Memory>
         ensures { OnOk result (self.new ≡ self.old ++ encode_lower bytes.now) }
     {
-        for byte in bytes {
-            self.put(&digits(*byte))?;
+        let mut rest = bytes;
+        while !rest.is_empty() {
+            let (chunk, others) = split_chunk(rest);
+            self.put_digits(chunk)?;
+            rest = others;
         }
         Ok(())
+    }
+
+    /// Puts the digits of a chunk of bytes at the end.
+    fn put_digits(&mut self, chunk: &[u8]) -> Result<(), Memory>
+        requires { length chunk.now ≤ CHUNK_LEN }
+        ensures { OnOk result (self.new ≡ self.old ++ encode_lower chunk.now) }
+    {
+        let mut buffer = [0; 2 * CHUNK_LEN];
+        let digits = &mut buffer[..2 * chunk.len()];
+        match hex::encode_to_slice(chunk, digits) {
+            Ok(()) => self.put(digits),
+            Err(_) => unreachable!(),
+        }
     }
 
     /// Puts the bytes at the end as they stand between quotation marks, run by run of those that stand
@@ -55,6 +85,19 @@ impl Line {
     {
         self.put(b"\\x")?;
         self.put(&digits(byte))
+    }
+}
+
+/// The bytes of the first chunk, which is shorter only where they end, and the others.
+fn split_chunk(bytes: &[u8]) -> (&[u8], &[u8])
+    ensures parts { bytes.now ≡ result.0.now ++ result.1.now }
+    ensures short { length result.0.now ≤ CHUNK_LEN }
+    ensures none { length bytes.now ≢ 0 → length result.1.now < length bytes.now }
+{
+    if bytes.len() <= CHUNK_LEN {
+        (bytes, &[])
+    } else {
+        bytes.split_at(CHUNK_LEN)
     }
 }
 

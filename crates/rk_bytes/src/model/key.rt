@@ -1,5 +1,8 @@
 //! Internal keys and records.
-use crate::Bytes;
+ghost use Rattle.std.specs.Prelude.{◌≡◌, IfOk};
+
+use crate::{Bytes, Memory};
+use std::alloc::Global;
 
 /// What a record does to its key.
 #[derive(Clone, Copy, Debug, PartialEq, Eq)]
@@ -37,4 +40,19 @@ pub struct Record {
     pub kind: Kind,
     /// Empty for a deletion in a batch. The end of a range deletion.
     pub value: Bytes,
+}
+
+impl Record {
+    /// A copy of the record. `Memory` comes only where memory runs out.
+    pub fn copy(&self, alloc: Global) -> Result<Record, Memory>
+        ensures { IfOk result (λ copy. copy ≡ self.now) }
+    {
+        Ok(Record {
+            family: self.family,
+            key: Bytes::copy_of(alloc, self.key.as_slice())?,
+            sequence: self.sequence,
+            kind: self.kind,
+            value: Bytes::copy_of(alloc, self.value.as_slice())?,
+        })
+    }
 }

@@ -1,16 +1,15 @@
-use Rattle.std.proofs.Common.{◌++◌, take, get_or, refl, sym, ap, ◌∙◌, append_assoc}
-use Rattle.std.proofs.lemmas.List.{append-nil}
-use Rattle.hex.specs.Hex.{encode_lower, encode_with}
-use Rattle.rk_text.proofs.QuoteLemmas.{encode_next}
+use Rattle.std.proofs.Common.{length, sym}
+use Rattle.std.proofs.lemmas.Bool.{eqb-true}
+use Rattle.std.proofs.lemmas.List.{nil_from_length}
+use Rattle.rk_text.proofs.QuoteLemmas.{hex_step, hex_end}
 use Rattle.rk_text.proofs.line.Line.put_hex.Goals as goal
 
-pub loop-byte-init : goal.loop-byte-init
-unfolding encode_with
-loop-byte-init c = sym (append-nil c.args.self.now)
+pub loop-rest-preserved : goal.loop-rest-preserved
+loop-rest-preserved c =
+    hex_step c.args.self.now c.loop-rest.self c.put_digits.new.self c.args.bytes.now c.loop-rest.rest.now c.split_chunk.result.0.now c.split_chunk.result.1.now
+    c.loop-rest.invariant c.split_chunk.ensures.parts c.in_ok-put_digits.ensures
 
-pub loop-byte-preserved : goal.loop-byte-preserved
-loop-byte-preserved c =
-    let bytes = c.args.bytes.now in
-    let i = c.loop-byte.byte-index in
-    c.in_ok-put.ensures ∙ ap (λ line. line ++ c.digits.result) c.loop-byte.invariant ∙ append_assoc c.args.self.now (encode_lower (take i bytes)) c.digits.result
-    ∙ ap (λ shown. c.args.self.now ++ shown) (ap (λ digits. encode_lower (take i bytes) ++ digits) c.digits.ensures ∙ sym (encode_next bytes i (get_or bytes i 0) c.loop-byte-test.true refl))
+pub returns : goal.returns
+returns c =
+    let rest = c.loop-rest.rest.now in
+    hex_end c.args.self.now c.loop-rest.self c.args.bytes.now rest c.loop-rest.invariant (nil_from_length rest (eqb-true (length rest) 0 (sym c.loop-rest-test.ensures)))
