@@ -1,21 +1,16 @@
 -- What an output took, line after line.
-use Rattle.std.proofs.Common.{◌≡◌, ℕ, ◌+◌, min, List, [], ◌∷◌, ◌++◌, length, take, map, Option, Some, None, Err, true, false, subst, refl, sym, ap, ◌∙◌, arith, append_assoc}
-use Rattle.std.specs.Prelude.{option_map}
+use Rattle.std.proofs.Common.{◌≡◌, ℕ, ◌+◌, min, List, [], ◌∷◌, ◌++◌, length, take, Option, Some, None, Result, Ok, Err, subst, refl, sym, ap, ◌∙◌, arith, append_assoc}
+use Rattle.std.specs.Prelude.{option_map, IsErrOf}
 use Rattle.std.proofs.lemmas.Grind.{flat_map-append}
 use Rattle.std.proofs.lemmas.List.{append-nil, take_min, take-append-le}
 use Rattle.std.proofs.Math.Seq.{take-append-add}
-use Rattle.std.proofs.lemmas.Bool.{false≢true}
-use Rattle.rk_bytes.specs.Model.LogItems.{Item, rec, gap, end}
-use Rattle.rk_log.specs.Items.{Gives}
-use Rattle.rk_ldb.specs.declared.stop.Stop.{Stop}
-use Rattle.rk_ldb.specs.declared.stop.Stop.TheVariants.{Disk, Sink, Memory}
-use Rattle.rk_ldb.specs.Last.{is_last}
-use Rattle.std.specs.Prelude.{IsErrOf}
+use Rattle.rk_bytes.specs.Model.Output.{Took, TookLines, TookFront, joined}
 use Rattle.rk_disk.specs.declared.sink.SinkErr.{SinkErr}
 use Rattle.rk_disk.specs.declared.sink.SinkErr.TheVariants as sink
+use Rattle.rk_ldb.specs.declared.stop.Stop.{Stop}
+use Rattle.rk_ldb.specs.declared.stop.Stop.TheVariants.{Disk, Sink, Memory}
 use Rattle.rk_ldb.specs.Stops.{sink_stop, TookLine, TookUpTo}
-use Rattle.rk_bytes.specs.Model.Lines.{item_line}
-use Rattle.rk_bytes.specs.Model.Output.{Took, TookLines, TookFront, joined}
+use Rattle.rk_ldb.specs.Wrote.{Wrote}
 
 pub took_nothing : (taken : Option (List ℕ)) → Took taken taken []
 took_nothing None = refl
@@ -26,85 +21,80 @@ took_more None between after first second one two = two ∙ ap (option_map (λ f
 took_more (Some front) between after first second one two =
     two ∙ (ap (option_map (λ f. f ++ second)) one ∙ ap Some (append_assoc front first second))
 
--- The lines that were written so far, and those that are left. The output took the first.
-pub record Wrote (before now : Option (List ℕ)) (all rest : List (List ℕ)) : Type 0 where
-  pub given : List (List ℕ)
-  pub whole : all ≡ given ++ rest
-  pub taken : Took before now (joined given)
+-- the same bytes in other words
+took_same : (before after : Option (List ℕ)) (first second : List ℕ) → Took before after first → first ≡ second → Took before after second
+took_same before after first second took same = took ∙ ap (λ bytes. option_map (λ front. front ++ bytes) before) same
 
 joined-append : (lines more : List (List ℕ)) → joined (lines ++ more) ≡ joined lines ++ joined more
 joined-append lines more = flat_map-append (λ bytes. bytes) lines more
 
-lines_so_far : (given rest : List (List ℕ)) → take (length given) (given ++ rest) ≡ given
-lines_so_far [] rest = refl
-lines_so_far (line ∷ given) rest = ap (λ lines. line ∷ lines) (lines_so_far given rest)
-
-front_of_three : (x y z : List ℕ) (n : ℕ) → x ++ take n y ≡ take (length x + min n (length y)) (x ++ (y ++ z))
+front_of_three : {A : Type 0} (x y z : List A) (n : ℕ) → x ++ take n y ≡ take (length x + min n (length y)) (x ++ (y ++ z))
 front_of_three x y z n =
     ap (λ w. x ++ w) (sym (take_min n y)) ∙ (ap (λ w. x ++ w) (sym (take-append-le (min n (length y)) y z (omega arith)))
     ∙ sym (take-append-add x (y ++ z) (min n (length y))))
 
--- what was taken before a stop that isn't the output's
-pub Wrote-lines : (before now : Option (List ℕ)) (all rest : List (List ℕ)) → Wrote before now all rest → TookLines before now all []
-Wrote-lines before now all rest h =
-    let so_far : take (length h.given) all ≡ h.given = ap (take (length h.given)) h.whole ∙ lines_so_far h.given rest in
-    (length h.given, h.taken ∙ ap (λ bytes. option_map (λ front. front ++ bytes) before) (sym (append-nil (joined (take (length h.given) all)) ∙ ap joined so_far)))
-
--- what was taken after a write of the next line that failed
-pub Wrote-front : (before between now : Option (List ℕ)) (all rest : List (List ℕ)) (line : List ℕ) (n : ℕ) → Wrote before between all (line ∷ rest) → Took between now (take n line) → TookFront before now (joined all)
-Wrote-front before between now all rest line n h more =
-    let front = joined h.given in
-    let whole : joined all ≡ front ++ (line ++ joined rest) = ap joined h.whole ∙ joined-append h.given (line ∷ rest) in
-    let len = length front + min n (length line) in (
-      len,
-      took_more before between now front (take n line) h.taken more
-          ∙ ap (λ bytes. option_map (λ f. f ++ bytes) before) (front_of_three front line (joined rest) n ∙ ap (take len) (sym whole)),
-    )
-
--- one line more
-pub Wrote-more : (before between now : Option (List ℕ)) (all rest : List (List ℕ)) (line : List ℕ) → Wrote before between all (line ∷ rest) → Took between now line → Wrote before now all rest
-Wrote-more before between now all rest line h more = record {
-  given = h.given ++ line ∷ [];
-  whole = h.whole ∙ sym (append_assoc h.given (line ∷ []) rest);
-  taken =
-      took_more before between now (joined h.given) line h.taken more
-      ∙ ap (λ bytes. option_map (λ f. f ++ bytes) before) (sym (joined-append h.given (line ∷ []) ∙ ap (λ w. joined h.given ++ w) (append-nil line)));
-}
+-- ---- lines that were written so far
 
 pub Wrote-nothing : (taken : Option (List ℕ)) (all : List (List ℕ)) → Wrote taken taken all all
 Wrote-nothing taken all = record { given = []; whole = refl; taken = took_nothing taken }
 
+-- more lines were taken whole
+pub Wrote-more : (before between now : Option (List ℕ)) (all lines rest : List (List ℕ)) → Wrote before between all (lines ++ rest) → Took between now (joined lines) → Wrote before now all rest
+Wrote-more before between now all lines rest h more = record {
+  given = h.given ++ lines;
+  whole = h.whole ∙ sym (append_assoc h.given lines rest);
+  taken = took_same before now (joined h.given ++ joined lines) _ (took_more before between now (joined h.given) (joined lines) h.taken more) (sym (joined-append h.given lines));
+}
+
 pub Wrote-all : (before now : Option (List ℕ)) (all : List (List ℕ)) → Wrote before now all [] → Took before now (joined all)
-Wrote-all before now all h = h.taken ∙ ap (λ lines. option_map (λ f. f ++ joined lines) before) (sym (h.whole ∙ append-nil h.given))
+Wrote-all before now all h = took_same before now (joined h.given) _ h.taken (ap joined (sym (append-nil h.given) ∙ sym h.whole))
 
--- a stop at the next line
-pub Wrote-stopped : (T : Type 0) (before between now : Option (List ℕ)) (all rest : List (List ℕ)) (line : List ℕ) (stop : Stop)
-    → Wrote before between all (line ∷ rest) → TookLine {T = T} between now line (Err stop) → TookUpTo {T = T} before now all (Err stop)
-Wrote-stopped T before between now all rest line Disk h took = absurd took
-Wrote-stopped T before between now all rest line Sink h took = Wrote-front before between now all rest line took.0 h took.1
-Wrote-stopped T before between now all rest line Memory h took =
-    subst (λ taken. TookLines before taken all []) (sym took) (Wrote-lines before between all (line ∷ rest) h)
+-- some of more lines were taken
+some_lines : (before between now : Option (List ℕ)) (all lines rest : List (List ℕ)) → Wrote before between all (lines ++ rest) → TookLines between now lines [] → TookLines before now all []
+some_lines before between now all lines rest h took =
+    let n = took.0 in
+    let count = length h.given + min n (length lines) in
+    let so_far : h.given ++ take n lines ≡ take count all = front_of_three h.given lines rest n ∙ ap (take count) (sym h.whole) in
+    let bytes : joined h.given ++ (joined (take n lines) ++ []) ≡ joined (take count all) ++ [] =
+    sym (append_assoc (joined h.given) (joined (take n lines)) []) ∙ ap (λ front. front ++ []) (sym (joined-append h.given (take n lines)) ∙ ap joined so_far) in
+    (count, took_same before now (joined h.given ++ (joined (take n lines) ++ [])) _ (took_more before between now (joined h.given) (joined (take n lines) ++ []) h.taken took.1) bytes)
 
--- ---- one turn of a dump
+-- a front of more lines was taken
+some_bytes : (before between now : Option (List ℕ)) (all lines rest : List (List ℕ)) → Wrote before between all (lines ++ rest) → TookFront between now (joined lines) → TookFront before now (joined all)
+some_bytes before between now all lines rest h took =
+    let n = took.0 in
+    let front = joined h.given in
+    let whole : front ++ (joined lines ++ joined rest) ≡ joined all = ap (λ w. front ++ w) (sym (joined-append lines rest)) ∙ sym (joined-append h.given (lines ++ rest)) ∙ ap joined (sym h.whole) in
+    let len = length front + min n (length (joined lines)) in
+    (len, took_same before now (front ++ take n (joined lines)) _ (took_more before between now front (take n (joined lines)) h.taken took.1) (front_of_three front (joined lines) (joined rest) n ∙ ap (take len) whole))
 
-pub next_given : (old new : List Item) (item : Item) → Gives old item new → is_last item ≡ false → old ≡ item ∷ new
-next_given old new (rec payload place) gives e = gives
-next_given old new (gap why place) gives e = gives
-next_given old new (end kind place) gives e = absurd (false≢true (sym e))
+-- a stop within more lines
+pub Wrote-stopped : (T U : Type 0) (before between now : Option (List ℕ)) (all lines rest : List (List ℕ)) (stop : Stop)
+    → Wrote before between all (lines ++ rest) → TookUpTo {T = T} between now lines (Err stop) → TookUpTo {T = U} before now all (Err stop)
+Wrote-stopped T U before between now all lines rest Disk h took = some_lines before between now all lines rest h took
+Wrote-stopped T U before between now all lines rest Sink h took = some_bytes before between now all lines rest h took
+Wrote-stopped T U before between now all lines rest Memory h took = some_lines before between now all lines rest h took
 
-pub last_given : (old new : List Item) (item : Item) → Gives old item new → is_last item ≡ true → old ≡ item ∷ []
-last_given old new (rec payload place) gives e = absurd (false≢true e)
-last_given old new (gap why place) gives e = absurd (false≢true e)
-last_given old new (end kind place) gives e = gives.0
+-- a stop before more lines that isn't the output's
+pub Wrote-lines : (before now : Option (List ℕ)) (all rest : List (List ℕ)) → Wrote before now all rest → TookLines before now all []
+Wrote-lines before now all rest h = some_lines before now now all [] rest h (0, took_nothing now)
 
--- some item was given, and others are left
-pub first_given : (old new : List Item) (item : Item) → Gives old item new → (rest : List Item) × (old ≡ item ∷ rest)
-first_given old new (rec payload place) gives = (new, gives)
-first_given old new (gap why place) gives = (new, gives)
-first_given old new (end kind place) gives = ([], gives.0)
+-- ---- one line
+
+pub one_line : (T : Type 0) (before after : Option (List ℕ)) (line : List ℕ) (result : Result T Stop) → TookLine before after line result → TookUpTo before after (line ∷ []) result
+one_line T before after line (Ok x) took = took_same before after line _ took (sym (append-nil line))
+one_line T before after line (Err Disk) took = absurd took
+one_line T before after line (Err Sink) took = (took.0, took_same before after (take took.0 line) _ took.1 (ap (take took.0) (sym (append-nil line))))
+one_line T before after line (Err Memory) took = (0, took ∙ took_nothing before)
 
 pub TookLine-stopped : (T : Type 0) (before after : Option (List ℕ)) (bytes line : List ℕ) (error : SinkErr)
     → (IsErrOf {T = Unit {0}} (Err error) sink.Failed → TookFront before after bytes) → (IsErrOf {T = Unit {0}} (Err error) sink.Memory → after ≡ before) → bytes ≡ line
     → TookLine {T = T} before after line (Err (sink_stop error))
 TookLine-stopped T before after bytes line sink.Failed failed memory same = subst (TookFront before after) same (failed refl)
 TookLine-stopped T before after bytes line sink.Memory failed memory same = memory refl
+
+-- the stop of another call
+pub TookUpTo-stop : (T U : Type 0) (before after : Option (List ℕ)) (lines : List (List ℕ)) (stop : Stop) → TookUpTo {T = T} before after lines (Err stop) → TookUpTo {T = U} before after lines (Err stop)
+TookUpTo-stop T U before after lines Disk took = took
+TookUpTo-stop T U before after lines Sink took = took
+TookUpTo-stop T U before after lines Memory took = took

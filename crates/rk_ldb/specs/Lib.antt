@@ -1,5 +1,5 @@
 pub mod Answers
 pub mod Built
 pub mod Commands
-pub mod Last
 pub mod Stops
+pub mod Wrote

@@ -1,11 +1,10 @@
-ghost use Rattle.std.specs.Prelude.{◌≡◌, ◌+◌, ◌<◌, ◌≤◌, ◌∷◌, ◌++◌, ◌^◌, [], ℕ, List, Some, IfOk, IfSome, false, true, codes, length, drop, map, unwrap_or};
+ghost use Rattle.std.specs.Prelude.{◌≡◌, ◌+◌, ◌<◌, ◌≤◌, ◌^◌, ℕ, List, Some, IfOk, IfSome, false, true, codes, length, drop, map, min};
 ghost use Rattle.std.specs.FinMap.{get};
-ghost use Rattle.rk_bytes.specs.Model.DiskImages.{contents_told};
+ghost use Rattle.rk_bytes.specs.Model.DiskImages.{IsLeft, contents_told};
 ghost use Rattle.rk_bytes.specs.Model.FileNames.{log_name};
 ghost use Rattle.rk_bytes.specs.Model.LogItems.{log_items};
 ghost use Rattle.rk_bytes.specs.Model.Lines.{batch_lines, part_line};
 ghost use Rattle.rk_bytes.specs.Model.Output.{item_lines, dump_wal_output};
-ghost use Rattle.rk_disk.specs.Left.{IsLeft};
 ghost use Rattle.rk_log.specs.Items.{item_of, is_end};
 ghost use Rattle.rk_log.specs.Left.{bytes_before};
 ghost use Rattle.rk_ldb.specs.Answers.{IsCommandAnswer};

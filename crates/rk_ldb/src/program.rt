@@ -1,10 +1,9 @@
 ghost use Rattle.std.specs.Prelude.{◌≡◌, ℕ, ◌+◌, ◌^◌, ◌<◌, ◌⊎◌, ◌∷◌, [], Ok, IfOk, OnOk, IsErrOf, IfSome, IsNone, length, take};
-ghost use Rattle.rk_bytes.specs.Model.DiskImages.{Rose, contents_told};
-ghost use Rattle.rk_disk.specs.Left.{IsLeft};
-ghost use Rattle.rk_bytes.specs.Model.Grammar.{command_of};
+ghost use Rattle.rk_bytes.specs.Model.DiskImages.{IsLeft, Rose, contents_told};
 ghost use Rattle.rk_bytes.specs.Model.Lines.{usage_line, disk_fault_line, memory_fault_line};
-ghost use Rattle.rk_bytes.specs.Model.Output.{output, text, command_output, Took, TookLines, TookFront};
+ghost use Rattle.rk_bytes.specs.Model.Output.{text, Took, TookLines, TookFront};
 ghost use Rattle.rk_ldb.specs.Answers.{IsAnswer, IsCommandAnswer, EndsInFault, TookPart};
+ghost use Rattle.rk_ldb.specs.Built.{built_command, output_so_far};
 ghost use Rattle.rk_ldb.specs.Stops.{TookUpTo, DiskCounts, SinkCounts, OutputStops};
 
 use crate::command::{Command, read_command};
@@ -22,11 +21,11 @@ use std::alloc::Global;
 pub fn run<D: Disk, S: Sink>(alloc: Global, words: &[Text], disk: &mut D, out: &mut S) -> Status
     // An answer is that of the definition, in full, and nothing else was taken.
     ensures answer { IsAnswer result → IfSome (contents_told (D.told disk.old)) (λ d.
-        Took (S.taken out.old) (S.taken out.new) (text (output words.now d)) × (result ≡ (output words.now d).status)) }
+        Took (S.taken out.old) (S.taken out.new) (text (output_so_far words.now d)) × (result ≡ (output_so_far words.now d).status)) }
 
     // The words alone decide whether the answer is the usage line, whatever the disk tells.
-    ensures usage { result ≡ Status.Usage → IsNone (command_of words.now) × Took (S.taken out.old) (S.taken out.new) usage_line }
-    ensures no_usage { IsNone (command_of words.now) → (result ≡ Status.Usage) ⊎ ((result ≡ Status.SinkFault) ⊎ (result ≡ Status.Memory)) }
+    ensures usage { result ≡ Status.Usage → IsNone (built_command words.now) × Took (S.taken out.old) (S.taken out.new) usage_line }
+    ensures no_usage { IsNone (built_command words.now) → (result ≡ Status.Usage) ⊎ ((result ≡ Status.SinkFault) ⊎ (result ≡ Status.Memory)) }
 
     // An answer hides no fault. A fault has a cause, and the first one counts.
     ensures no_fault { IsAnswer result → (D.faults disk.new ≡ D.faults disk.old) × (S.faults out.new ≡ S.faults out.old) }
@@ -35,15 +34,15 @@ pub fn run<D: Disk, S: Sink>(alloc: Global, words: &[Text], disk: &mut D, out: &
 
     // After a fault of the disk whole lines were taken, and want of memory left out the fault's line.
     ensures memory { result ≡ Status.Memory → (D.faults disk.new ≡ D.faults disk.old) ⊎ IfSome (contents_told (D.told disk.old)) (λ d.
-        TookLines (S.taken out.old) (S.taken out.new) (output words.now d).lines []) }
+        TookLines (S.taken out.old) (S.taken out.new) (output_so_far words.now d).lines []) }
 
     // What was taken up to a fault.
     ensures disk_fault_text { result ≡ Status.DiskFault → IfSome (contents_told (D.told disk.old)) (λ d.
-        EndsInFault (S.taken out.old) (S.taken out.new) (output words.now d).lines disk_fault_line (λ len. Rose (S.faults out.old) (S.faults out.new))) }
+        EndsInFault (S.taken out.old) (S.taken out.new) (output_so_far words.now d).lines disk_fault_line (λ len. Rose (S.faults out.old) (S.faults out.new))) }
     ensures memory_text { result ≡ Status.Memory → IfSome (contents_told (D.told disk.old)) (λ d.
-        EndsInFault (S.taken out.old) (S.taken out.new) (output words.now d).lines memory_fault_line (λ len. (len ≡ 0) ⊎ Rose (S.faults out.old) (S.faults out.new))) }
+        EndsInFault (S.taken out.old) (S.taken out.new) (output_so_far words.now d).lines memory_fault_line (λ len. (len ≡ 0) ⊎ Rose (S.faults out.old) (S.faults out.new))) }
     ensures sink_fault_text { result ≡ Status.SinkFault → IfSome (contents_told (D.told disk.old)) (λ d.
-        TookFront (S.taken out.old) (S.taken out.new) (text (output words.now d))) }
+        TookFront (S.taken out.old) (S.taken out.new) (text (output_so_far words.now d))) }
 
     ensures left { IsLeft (D.told disk.old) (D.told disk.new) }
 {
@@ -62,16 +61,16 @@ fn answer<D: Disk, S: Sink>(
     disk: &mut D,
     out: &mut S,
 ) -> Result<Status, Stop>
-    ensures lines { IfSome (contents_told (D.told disk.old)) (λ d. TookUpTo (S.taken out.old) (S.taken out.new) (output words.now d).lines result) }
-    ensures status { IfSome (contents_told (D.told disk.old)) (λ d. IfOk result (λ status. status ≡ (output words.now d).status)) }
-    ensures usage { IfOk result (λ status. IsCommandAnswer status ⊎ ((status ≡ Status.Usage) × (IsNone (command_of words.now) × Took (S.taken out.old) (S.taken out.new) usage_line))) }
-    ensures no_usage { IsNone (command_of words.now) → (result ≡ Ok Status.Usage) ⊎ (IsErrOf result Stop.Sink ⊎ IsErrOf result Stop.Memory) }
+    ensures lines { IfSome (contents_told (D.told disk.old)) (λ d. TookUpTo (S.taken out.old) (S.taken out.new) (output_so_far words.now d).lines result) }
+    ensures status { IfSome (contents_told (D.told disk.old)) (λ d. IfOk result (λ status. status ≡ (output_so_far words.now d).status)) }
+    ensures usage { IfOk result (λ status. IsCommandAnswer status ⊎ ((status ≡ Status.Usage) × (IsNone (built_command words.now) × Took (S.taken out.old) (S.taken out.new) usage_line))) }
+    ensures no_usage { IsNone (built_command words.now) → (result ≡ Ok Status.Usage) ⊎ (IsErrOf result Stop.Sink ⊎ IsErrOf result Stop.Memory) }
     ensures disk_count { DiskCounts (D.faults disk.old) (D.faults disk.new) result }
     ensures output_count { SinkCounts (S.faults out.old) (S.faults out.new) result }
     ensures left { IsLeft (D.told disk.old) (D.told disk.new) }
 {
     match read_command(words) {
-        Some(Command::DumpWal { number }) => dump_wal(alloc, number, disk, out),
+        Some(Command::DumpWal { number, hex }) => dump_wal(alloc, number, hex, disk, out),
         None => answer_with_usage(out),
     }
 }

@@ -1,15 +1,27 @@
 //! The lines of write batches.
 ghost use Rattle.std.specs.Prelude.{◌≡◌, ◌++◌, false, OnOk};
 ghost use Rattle.rk_bytes.specs.Model.WriteBatch.{change, log_bytes};
-ghost use Rattle.rk_bytes.specs.Model.Lines.{bad_line, batch_fault_words, change_word, change_value, key_at, part_line};
+ghost use Rattle.rk_bytes.specs.Model.Lines.{bad_line, batch_line, batch_fault_words, change_word, change_value, key_at, part_line};
 ghost use Rattle.rk_batch.specs.Seen.{part_of};
 
 use crate::Line;
-use rk_batch::{BatchFault, BatchRecord};
+use rk_batch::{BatchFault, BatchRecord, BatchView};
 use rk_bytes::Memory;
 use rk_bytes::model::Kind;
 
 impl Line {
+    /// Makes this the first line of a batch, with its sequence number and its count of changes. `Memory`
+    /// comes only where memory runs out.
+    pub fn set_batch(&mut self, batch: &BatchView<'_>) -> Result<(), Memory>
+        ensures { OnOk result (self.new ≡ batch_line batch.now.batch) }
+    {
+        self.clear();
+        self.put(b"  batch")?;
+        self.put_number(batch.sequence())?;
+        self.put_number(u64::from(batch.count()))?;
+        self.end()
+    }
+
     /// Makes this the line of a part of a batch, with its bytes in hexadecimal or between quotation
     /// marks. `Memory` comes only where memory runs out.
     pub fn set_part(&mut self, part: &BatchRecord<'_>, hex: bool) -> Result<(), Memory>
