@@ -1,3 +1,5 @@
+mod CountLemmas
 mod PartLemmas
+mod ReadLemmas
 mod Shorter
 mod ViewLemmas

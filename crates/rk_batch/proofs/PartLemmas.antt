@@ -1,11 +1,11 @@
 -- What is read of a batch, step by step.
-use Rattle.std.proofs.Common.{◌≡◌, ℕ, ◌≤◌, Bool, true, false, List, [], ◌∷◌, length, drop, refl, sym, ap, ◌∙◌, subst, arith, Option, Some, None, Result, Ok, Err}
+use Rattle.std.proofs.Common.{◌≡◌, ℕ, Bool, List, refl, ap, ◌∙◌, Option, Some, None, Result, Err}
 use Rattle.rk_bytes.specs.declared.model.number.NumFault.{NumFault}
 use Rattle.std.specs.Prelude.{option_map}
 use Rattle.rk_bytes.specs.declared.model.batch.BatchFault.{BatchFault}
 use Rattle.rk_bytes.specs.declared.model.batch.BatchFault.TheVariants.{BadRecord}
 use Rattle.rk_bytes.specs.declared.model.key.Kind.{Kind}
-use Rattle.rk_bytes.specs.Model.Numbers.{Read, ◌>>=◌, reads_or}
+use Rattle.rk_bytes.specs.Model.Numbers.{reads_or}
 use Rattle.rk_bytes.specs.Model.WriteBatch.{Part, kind_of_tag, names_family, change_at}
 use Rattle.rk_batch.specs.Parts.{change_read, kind_with_tag, tagged_read}
 use Rattle.rk_bytes.specs.Reading.{Reading, IsFurther}

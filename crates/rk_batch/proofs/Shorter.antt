@@ -1,14 +1,13 @@
 -- Each part of a batch takes a byte at least.
-use Rattle.std.specs.Prelude.{nat_lt, not, option_map, slice_index}
-use Rattle.std.proofs.Common.{◌≡◌, ℕ, zero, suc, ◌+◌, ◌-◌, ◌^◌, ◌<◌, ◌≤◌, Bool, true, false, cond, List, [], ◌∷◌, length, take, drop, Option, Some, None, Result, Ok, Err, refl, sym, ap, subst, arith, length-drop}
+use Rattle.std.specs.Prelude.{nat_lt, slice_index}
+use Rattle.std.proofs.Common.{◌≡◌, ℕ, ◌+◌, ◌-◌, ◌^◌, ◌<◌, ◌≤◌, Bool, true, false, cond, List, [], ◌∷◌, length, take, drop, Option, Some, None, Result, Ok, Err, refl, ap, subst, arith, length-drop}
 use Rattle.rk_bytes.specs.declared.model.batch.BatchFault.{BatchFault}
 use Rattle.rk_bytes.specs.declared.model.batch.BatchFault.TheVariants.{BadRecord, UnsupportedTag}
-use Rattle.rk_bytes.specs.declared.model.number.NumFault.{NumFault}
 use Rattle.rk_bytes.specs.declared.model.number.NumFault.TheVariants.{Cut, TooLarge}
 use Rattle.rk_bytes.specs.declared.model.key.Kind.{Kind}
 use Rattle.rk_bytes.specs.declared.model.key.Kind.TheVariants.{Deletion, Value, Merge, SingleDeletion, RangeDeletion}
 use Rattle.rk_bytes.specs.Model.Numbers.{Read, ◌>>=◌, groups_value, high_count, part_of, varint_at, varint32_at, prefixed_at, reads_or}
-use Rattle.rk_bytes.specs.Model.WriteBatch.{Part, change, log_bytes, noop, kind_of_tag, names_family, is_unsupported_batch_tag, family_at, value_at, change_at, log_bytes_at, part_of_tag, change_count, batch_part_at}
+use Rattle.rk_bytes.specs.Model.WriteBatch.{Part, noop, kind_of_tag, names_family, family_at, value_at, change_at, log_bytes_at, part_of_tag, change_count, batch_part_at}
 use Rattle.rk_bytes.proofs.InTurn.{Shortens}
 
 -- what is read leaves at most so many bytes
@@ -92,3 +91,9 @@ part_shorter batch_len sequence before (b ∷ bytes) one is =
 -- as reading in turn asks for
 pub batch_shortens : (batch_len sequence : ℕ) → Shortens (batch_part_at batch_len sequence)
 batch_shortens batch_len sequence = record { shorter = part_shorter batch_len sequence }
+
+pub rest_shorter : (place sequence : ℕ) (bytes : List ℕ) (part : Part) (rest : List ℕ) → 0 < length bytes → part_of_tag place sequence (slice_index bytes 0) (drop 1 bytes) ≡ Ok (part, rest) → length rest < length bytes
+rest_shorter place sequence [] part rest some is = absurd (omega arith)
+rest_shorter place sequence (b ∷ bytes) part rest some is =
+    let leaves = tag_leaves place sequence b bytes in
+    let short = leaves.at_most (part, rest) is in omega arith

@@ -1,6 +1,6 @@
 -- The parts that are left of a batch, one after another.
 use Rattle.std.specs.Prelude.{slice_index}
-use Rattle.std.proofs.Common.{◌≡◌, ℕ, zero, suc, ◌+◌, ◌-◌, ◌<◌, ◌≤◌, List, [], ◌∷◌, ◌++◌, length, drop, Result, Ok, Err, refl, sym, ap, ◌∙◌, subst, arith}
+use Rattle.std.proofs.Common.{◌≡◌, ℕ, zero, suc, ◌+◌, ◌-◌, ◌<◌, List, [], ◌∷◌, length, drop, Result, Ok, Err, refl, ap, ◌∙◌, arith}
 use Rattle.rk_bytes.specs.declared.model.batch.BatchFault.{BatchFault}
 use Rattle.rk_bytes.specs.Model.Numbers.{◌>>=◌, in_turn}
 use Rattle.rk_bytes.specs.Model.WriteBatch.{Part, change, log_bytes, noop, change_count, part_of_tag, batch_part_at}

@@ -1,7 +1,7 @@
 -- What a view of a batch keeps.
 use Rattle.std.specs.Prelude.{◌≡◌, ℕ, ◌+◌, ◌^◌, ◌≤◌, List, length, Result, Ok, Err}
 use Rattle.rk_bytes.specs.declared.model.batch.BatchFault.{BatchFault}
-use Rattle.rk_bytes.specs.Model.WriteBatch.{Batch, change_count, batch_sequence, batch_of}
+use Rattle.rk_bytes.specs.Model.WriteBatch.{Batch, change_count, batch_of}
 use Rattle.rk_bytes.specs.Reading.{Reading, rest_of}
 use Rattle.rk_batch.specs.Seen.{BatchSeen, parts_left, parts_or_none, batch_or_none, seen_whole}
 

@@ -1,8 +1,8 @@
 -- What contracts see of a batch that is read.
-use Rattle.std.specs.Prelude.{◌≡◌, ℕ, ◌+◌, ◌≤◌, List, [], length, Result, Ok, Err, IsOk}
+use Rattle.std.specs.Prelude.{ℕ, List, [], length, Result, Ok, Err}
 use Rattle.rk_bytes.specs.declared.model.batch.BatchFault.{BatchFault}
 use Rattle.rk_bytes.specs.Model.Numbers.{in_turn}
-use Rattle.rk_bytes.specs.Model.WriteBatch.{Part, change, log_bytes, noop, Batch, change_count, batch_part_at, batch_of}
+use Rattle.rk_bytes.specs.Model.WriteBatch.{Part, change, log_bytes, noop, Batch, change_count, batch_part_at}
 use Rattle.rk_batch.specs.declared.record.BatchRecord.{BatchRecord}
 use Rattle.rk_batch.specs.declared.record.BatchRecord.TheVariants.{Change, LogBytes, Noop}
 

@@ -120,7 +120,7 @@ impl<'a> BatchView<'a> {
 /// change.
 fn numbered(raw: RawPart<'_>, place: u64, sequence: u64) -> (BatchRecord<'_>, u64)
     requires { sequence < 2 ^ 64 - 1 }
-    ensures record { part_of result.0 ≡ part_at place sequence raw.entry }
+    ensures part { part_of result.0 ≡ part_at place sequence raw.entry }
     ensures next { result.1 ≡ sequence + change_count (part_at place sequence raw.entry ∷ []) }
 {
     match raw {
@@ -182,9 +182,19 @@ fn count_changes(mut cursor: Cursor<'_>) -> Result<u64, BatchFault>
 {
     let mut count = 0;
     while !cursor.rest().is_empty() {
-        if let RawPart::Change { .. } = read_part(&mut cursor)? {
-            count += 1;
-        }
+        let raw = read_part(&mut cursor)?;
+        count += changes_in(&raw);
     }
     Ok(count)
+}
+
+/// How many changes a part is: one or none.
+fn changes_in(raw: &RawPart<'_>) -> u64
+    ensures count { (place sequence : ℕ) → result ≡ change_count (part_at place sequence raw.now ∷ []) }
+    ensures few { result ≤ 1 }
+{
+    match raw {
+        RawPart::Change { .. } => 1,
+        RawPart::LogBytes(_) | RawPart::Noop => 0,
+    }
 }

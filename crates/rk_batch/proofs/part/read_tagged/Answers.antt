@@ -1,4 +1,3 @@
-use Rattle.std.proofs.Common.{sym, ◌∙◌}
 use Rattle.rk_bytes.specs.Reading.{rest_of}
 use Rattle.rk_batch.proofs.PartLemmas.{tagged_bad}
 use Rattle.rk_batch.proofs.part.read_tagged.Goals as goal
