@@ -1,5 +1,9 @@
 mod CommandWords
-pub mod NumberWords
-pub mod Taken
-pub mod Names
-pub mod Faults
+mod NumberWords
+mod Taken
+mod BatchLines
+mod Dumping
+mod Blocks
+mod Dumps
+mod Names
+mod Faults

@@ -9,7 +9,7 @@ use Rattle.rk_disk.specs.declared.sink.SinkErr.{SinkErr}
 use Rattle.rk_disk.specs.declared.sink.SinkErr.TheVariants as sink
 use Rattle.rk_ldb.specs.declared.stop.Stop.{Stop}
 use Rattle.rk_ldb.specs.declared.stop.Stop.TheVariants.{Disk, Sink, Memory}
-use Rattle.rk_ldb.specs.Stops.{sink_stop, TookLine, TookUpTo}
+use Rattle.rk_ldb.specs.Stops.{sink_stop, TookLine, TookUpTo, DiskStops}
 use Rattle.rk_ldb.specs.Wrote.{Wrote}
 
 pub took_nothing : (taken : Option (List ℕ)) → Took taken taken []
@@ -98,3 +98,40 @@ pub TookUpTo-stop : (T U : Type 0) (before after : Option (List ℕ)) (lines : L
 TookUpTo-stop T U before after lines Disk took = took
 TookUpTo-stop T U before after lines Sink took = took
 TookUpTo-stop T U before after lines Memory took = took
+
+-- one line more, which was said in these bytes
+pub Wrote-line : (before between now : Option (List ℕ)) (all rest : List (List ℕ)) (line said : List ℕ) → Wrote before between all (line ∷ rest) → said ≡ line → Took between now said → Wrote before now all rest
+Wrote-line before between now all rest line said h same took =
+    Wrote-more before between now all (line ∷ []) rest h (one_line (Unit {0}) between now line (Ok tt) (took_same between now said line took same))
+
+pub Wrote-line-stopped : (T : Type 0) (before between now : Option (List ℕ)) (all rest : List (List ℕ)) (line said : List ℕ) (stop : Stop)
+    → Wrote before between all (line ∷ rest) → said ≡ line → TookLine {T = Unit {0}} between now said (Err stop) → TookUpTo {T = T} before now all (Err stop)
+Wrote-line-stopped T before between now all rest line said stop h same took =
+    Wrote-stopped (Unit {0}) T before between now all (line ∷ []) rest stop h (one_line (Unit {0}) between now line (Err stop) (subst (λ line. TookLine {T = Unit {0}} between now line (Err stop)) same took))
+
+-- a stop for want of memory before more lines
+pub Wrote-no_memory : (T : Type 0) (before now : Option (List ℕ)) (all rest : List (List ℕ)) (stop : Stop) → stop ≡ Memory → Wrote before now all rest → TookUpTo {T = T} before now all (Err stop)
+Wrote-no_memory T before now all rest stop is h = subst (λ s. TookUpTo {T = T} before now all (Err s)) (sym is) (Wrote-lines before now all rest h)
+
+-- a line, and then others up to a stop or to the end
+pub line_then : (T : Type 0) (before between now : Option (List ℕ)) (all lines : List (List ℕ)) (line said : List ℕ) (result : Result T Stop) → all ≡ line ∷ lines → said ≡ line → Took before between said
+    → TookUpTo between now lines result → TookUpTo before now all result
+line_then T before between now all lines line said result is same took more = by result more
+  where
+    h : Wrote before between all (lines ++ [])
+    h = Wrote-line before before between all (lines ++ []) line said (subst (Wrote before before all) (is ∙ ap (λ lines. line ∷ lines) (sym (append-nil lines))) (Wrote-nothing before all)) same took
+    by : (result : Result T Stop) → TookUpTo between now lines result → TookUpTo before now all result
+    by (Ok x) more = Wrote-all before now all (Wrote-more before between now all lines [] h more)
+    by (Err stop) more = Wrote-stopped T T before between now all lines [] stop h more
+
+-- the only line
+pub only_line : (T : Type 0) (before now : Option (List ℕ)) (all : List (List ℕ)) (line said : List ℕ) (result : Result T Stop) → all ≡ line ∷ [] → said ≡ line → TookLine before now said result → TookUpTo before now all result
+only_line T before now all line said result is same took =
+    subst (λ lines. TookUpTo before now lines result) (sym is) (one_line T before now line result (subst (λ line. TookLine before now line result) same took))
+
+-- a stop of the disk, or for want of memory, before more lines
+pub Wrote-disk_stopped : (T U : Type 0) (before now : Option (List ℕ)) (all rest : List (List ℕ)) (stop : Stop) (faults_before faults_now : ℕ) → Wrote before now all rest → DiskStops {T = T} faults_before faults_now (Err stop)
+    → TookUpTo {T = U} before now all (Err stop)
+Wrote-disk_stopped T U before now all rest Disk n m h stops = Wrote-lines before now all rest h
+Wrote-disk_stopped T U before now all rest Sink n m h stops = absurd stops
+Wrote-disk_stopped T U before now all rest Memory n m h stops = Wrote-lines before now all rest h

@@ -1,5 +1,5 @@
 -- What a command has written so far of its lines, and what a part of it writes.
-use Rattle.std.specs.Prelude.{◌≡◌, ℕ, Bool, true, false, List, [], ◌++◌, map, flat_map, Option, Result, Ok, Err, codes}
+use Rattle.std.specs.Prelude.{◌≡◌, ℕ, ◌+◌, Bool, true, false, List, [], ◌++◌, length, drop, map, flat_map, Option, Result, Ok, Err, codes}
 use Rattle.rk_bytes.specs.Model.LogItems.{Item}
 use Rattle.rk_bytes.specs.Model.Lines.{batch_lines}
 use Rattle.rk_bytes.specs.Model.Output.{Took, joined, item_lines}
@@ -30,3 +30,8 @@ abbrev pub WritesBlock : Option (List ℕ) → Option (List ℕ) → Bool → Lo
 WritesBlock taken now hex old block is_last result new =
     (start : Option (List ℕ)) (all : List (List ℕ)) (rest : List ℕ) → MayFollow is_last rest
     → Wrote start taken all (dump_lines hex (left old (block ++ rest)).items) → BlockWritten start now hex all rest result new
+
+-- The bytes at this place of a file are a block and what follows it, which is nothing if it is the last one.
+pub record IsBlock (at : ℕ) (bytes block : List ℕ) (is_last : Bool) : Type 0 where
+  pub parts : drop at bytes ≡ block ++ drop (at + length block) bytes
+  pub follows : MayFollow is_last (drop (at + length block) bytes)

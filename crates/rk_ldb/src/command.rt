@@ -6,17 +6,17 @@ ghost use Rattle.rk_ldb.specs.Commands.{told};
 
 use rk_bytes::Text;
 
-/// What the words of one call ask for.
+/// The command `dump_wal`: the records of the log with this number, and what stands in them. Bytes are
+/// shown in hexadecimal, or between quotation marks.
 #[derive(Clone, Copy, Debug, PartialEq, Eq)]
-pub(crate) enum Command {
-    /// The records of the log with this number, and what stands in them. Bytes are shown in
-    /// hexadecimal, or between quotation marks.
-    DumpWal { number: u64, hex: bool },
+pub(crate) struct DumpWal {
+    pub(crate) number: u64,
+    pub(crate) hex: bool,
 }
 
 /// The command that the words spell, or `None` where they are in the grammar of no command that the
 /// program has.
-pub(crate) fn read_command(words: &[Text]) -> Option<Command>
+pub(crate) fn read_command(words: &[Text]) -> Option<DumpWal>
     ensures { option_map told result ≡ built_command words.now }
 {
     let [verb, number, options @ ..] = words else {
@@ -27,7 +27,7 @@ pub(crate) fn read_command(words: &[Text]) -> Option<Command>
     }
     let number = read_number(number.as_str())?;
     let hex = read_hex(options)?;
-    Some(Command::DumpWal { number, hex })
+    Some(DumpWal { number, hex })
 }
 
 /// Whether the last words, which may be none, ask for hexadecimal.

@@ -8,14 +8,14 @@ use rk_disk::Sink;
 use std::alloc::{AllocError, Global};
 
 /// The line that answers words that spell no command.
-pub(crate) const USAGE_LINE: &str =
-    "usage: scan get families manifest_dump dump_wal check repair sst drill\n";
+pub(crate) const USAGE_LINE: &[u8] =
+    b"usage: scan get families manifest_dump dump_wal check repair sst drill\n";
 
 /// The line that ends the output after a fault of the disk.
-pub(crate) const DISK_FAULT_LINE: &str = "fault: disk\n";
+pub(crate) const DISK_FAULT_LINE: &[u8] = b"fault: disk\n";
 
 /// The line that ends the output after want of memory.
-pub(crate) const MEMORY_FAULT_LINE: &str = "fault: memory\n";
+pub(crate) const MEMORY_FAULT_LINE: &[u8] = b"fault: memory\n";
 
 /// The name of the log with this number.
 pub(crate) fn log_name(alloc: Global, number: u64) -> Result<String, AllocError>

@@ -1,4 +1,4 @@
-ghost use Rattle.std.specs.Prelude.{◌≡◌, ◌+◌, ◌<◌, ◌≤◌, ◌^◌, ℕ, List, Some, IfOk, IfSome, false, true, codes, length, drop, map, min};
+ghost use Rattle.std.specs.Prelude.{◌≡◌, ◌+◌, ◌<◌, ◌≤◌, ◌^◌, ℕ, List, Some, IfOk, IfSome, false, true, codes, length, take, map, min};
 ghost use Rattle.std.specs.FinMap.{get};
 ghost use Rattle.rk_bytes.specs.Model.DiskImages.{IsLeft, contents_told};
 ghost use Rattle.rk_bytes.specs.Model.FileNames.{log_name};
@@ -6,10 +6,10 @@ ghost use Rattle.rk_bytes.specs.Model.LogItems.{log_items};
 ghost use Rattle.rk_bytes.specs.Model.Lines.{batch_lines, part_line};
 ghost use Rattle.rk_bytes.specs.Model.Output.{item_lines, dump_wal_output};
 ghost use Rattle.rk_log.specs.Items.{item_of, is_end};
-ghost use Rattle.rk_log.specs.Left.{bytes_before};
+ghost use Rattle.rk_log.specs.Left.{left, bytes_before};
 ghost use Rattle.rk_ldb.specs.Answers.{IsCommandAnswer};
-ghost use Rattle.rk_ldb.specs.Stops.{TookUpTo, DiskCounts, SinkCounts, OutputStops};
-ghost use Rattle.rk_ldb.specs.Wrote.{dump_lines, WritesBlock};
+ghost use Rattle.rk_ldb.specs.Stops.{TookUpTo, DiskCounts, SinkCounts, DiskStops, OutputStops};
+ghost use Rattle.rk_ldb.specs.Wrote.{dump_lines, WritesBlock, IsBlock};
 
 use crate::lines::{log_name, no_log_line, write_line};
 use crate::stop::Stop;
@@ -70,16 +70,69 @@ fn write_log<D: Disk, S: Sink>(
     let mut buffer = vec![in alloc; 0; BLOCK_LEN]?;
     let mut feed = LogFeed::new(alloc, number);
     let mut line = Line::new(alloc);
+    write_blocks(
+        name,
+        size,
+        hex,
+        &mut buffer,
+        &mut feed,
+        &mut line,
+        disk,
+        out,
+    )
+}
+
+/// Writes the lines of a log's file block by block, from its begin on.
+fn write_blocks<D: Disk, S: Sink>(
+    name: &str,
+    size: u64,
+    hex: bool,
+    buffer: &mut [u8],
+    feed: &mut LogFeed,
+    line: &mut Line,
+    disk: &mut D,
+    out: &mut S,
+) -> Result<(), Stop>
+    requires room { length buffer.old ≡ BLOCK_LEN }
+    requires begin { bytes_before feed.old ≡ 0 }
+    ensures lines { IfSome (contents_told (D.told disk.old)) (λ d. (bytes : List ℕ) → get d name.now ≡ Some bytes → length bytes ≡ size
+        → TookUpTo (S.taken out.old) (S.taken out.new) (dump_lines hex (left feed.old bytes).items) result) }
+    ensures disk_count { DiskCounts (D.faults disk.old) (D.faults disk.new) result }
+    ensures output_count { SinkCounts (S.faults out.old) (S.faults out.new) result }
+    ensures left { IsLeft (D.told disk.old) (D.told disk.new) }
+{
     let mut at = 0;
     loop {
-        let wanted = block_len(size - at);
-        let len = read_piece(disk, name, at, &mut buffer[..wanted])?;
-        let last = len < BLOCK_LEN || size - at == BLOCK_LEN as u64;
-        if write_block(&mut feed, &buffer[..len], last, hex, &mut line, out)? {
+        let (len, last) = read_block(disk, name, at, size, buffer)?;
+        if write_block(feed, &buffer[..len], last, hex, line, out)? {
             return Ok(());
         }
         at += BLOCK_LEN as u64;
     }
+}
+
+/// Reads a block of a file at `at` into the buffer, where the file has `size` bytes, and says how long
+/// the block is and whether it is the last one. A file that ends earlier ends with the block.
+fn read_block<D: Disk>(
+    disk: &mut D,
+    name: &str,
+    at: u64,
+    size: u64,
+    buffer: &mut [u8],
+) -> Result<(usize, bool), Stop>
+    requires within { at ≤ size }
+    requires room { length buffer.old ≡ BLOCK_LEN }
+    ensures room { length buffer.new ≡ BLOCK_LEN }
+    ensures len { IfOk result (λ read. (read.0 ≤ BLOCK_LEN) × (at + read.0 ≤ size)) }
+    ensures full { IfOk result (λ read. read.1 ≡ false → (read.0 ≡ BLOCK_LEN) × (at + BLOCK_LEN < size)) }
+    ensures block { IfOk result (λ read. IfSome (contents_told (D.told disk.old)) (λ d. (bytes : List ℕ) → get d name.now ≡ Some bytes → length bytes ≡ size
+        → IsBlock at bytes (take read.0 buffer.new) read.1)) }
+    ensures counts { DiskStops (D.faults disk.old) (D.faults disk.new) result }
+    ensures left { IsLeft (D.told disk.old) (D.told disk.new) }
+{
+    let wanted = block_len(size - at);
+    let len = read_piece(disk, name, at, &mut buffer[..wanted])?;
+    Ok((len, len < BLOCK_LEN || size - at == BLOCK_LEN as u64))
 }
 
 /// The length of the next block, of so many bytes that are left.

@@ -1,4 +1,4 @@
-ghost use Rattle.std.specs.Prelude.{◌≡◌, ℕ, ◌+◌, ◌^◌, ◌<◌, ◌⊎◌, ◌∷◌, [], Ok, IfOk, OnOk, IsErrOf, IfSome, IsNone, length, take};
+ghost use Rattle.std.specs.Prelude.{◌≡◌, ℕ, ◌+◌, ◌^◌, ◌<◌, ◌≤◌, ◌⊎◌, ◌∷◌, [], Ok, IfOk, OnOk, IsErrOf, IfSome, IsNone, length, take};
 ghost use Rattle.rk_bytes.specs.Model.DiskImages.{IsLeft, Rose, contents_told};
 ghost use Rattle.rk_bytes.specs.Model.Lines.{usage_line, disk_fault_line, memory_fault_line};
 ghost use Rattle.rk_bytes.specs.Model.Output.{text, Took, TookLines, TookFront};
@@ -6,7 +6,7 @@ ghost use Rattle.rk_ldb.specs.Answers.{IsAnswer, IsCommandAnswer, EndsInFault, T
 ghost use Rattle.rk_ldb.specs.Built.{built_command, output_so_far};
 ghost use Rattle.rk_ldb.specs.Stops.{TookUpTo, DiskCounts, SinkCounts, OutputStops};
 
-use crate::command::{Command, read_command};
+use crate::command::read_command;
 use crate::lines::{DISK_FAULT_LINE, MEMORY_FAULT_LINE, USAGE_LINE, write_line};
 use crate::log_dump::dump_wal;
 use crate::stop::Stop;
@@ -70,7 +70,7 @@ fn answer<D: Disk, S: Sink>(
     ensures left { IsLeft (D.told disk.old) (D.told disk.new) }
 {
     match read_command(words) {
-        Some(Command::DumpWal { number, hex }) => dump_wal(alloc, number, hex, disk, out),
+        Some(command) => dump_wal(alloc, command.number, command.hex, disk, out),
         None => answer_with_usage(out),
     }
 }
@@ -107,7 +107,7 @@ fn end_after_disk_fault<S: Sink>(out: &mut S) -> Status
     ensures line { result ≡ Status.DiskFault → TookPart (S.taken out.old) (S.taken out.new) disk_fault_line (λ len. Rose (S.faults out.old) (S.faults out.new)) }
     ensures memory { result ≡ Status.Memory → S.taken out.new ≡ S.taken out.old }
 {
-    let written = out.write(DISK_FAULT_LINE.as_bytes());
+    let written = out.write(DISK_FAULT_LINE);
     let _ = out.flush();
     match written {
         Ok(()) => Status::DiskFault,
@@ -133,7 +133,7 @@ pub fn end_after_want_of_memory<S: Sink>(out: &mut S) -> Status
     // Nothing of the line is taken, or all of it, or a front of it where the output failed.
     ensures line { TookPart (S.taken out.old) (S.taken out.new) memory_fault_line (λ len. (len ≡ 0) ⊎ Rose (S.faults out.old) (S.faults out.new)) }
 {
-    let _ = out.write(MEMORY_FAULT_LINE.as_bytes());
+    let _ = out.write(MEMORY_FAULT_LINE);
     let _ = out.flush();
     Status::Memory
 }

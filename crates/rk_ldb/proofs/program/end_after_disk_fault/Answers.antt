@@ -1,14 +1,12 @@
-use Rattle.std.proofs.Common.{Err, ap}
-use Rattle.rk_ldb.proofs.Faults.{TookPart-whole, TookPart-cut, Rose-failed}
+use Rattle.std.proofs.Common.{ℕ, sym, subst}
+use Rattle.rk_bytes.specs.Model.DiskImages.{Rose}
+use Rattle.rk_bytes.specs.Model.Lines.{disk_fault_line}
+use Rattle.rk_ldb.specs.Answers.{TookPart}
+use Rattle.rk_ldb.proofs.Faults.{TookPart-whole}
 use Rattle.rk_ldb.proofs.program.end_after_disk_fault.Goals as goal
 
 pub returns-in-Ok-clause-line : goal.returns-in-Ok-clause-line
 returns-in-Ok-clause-line g c = λ is.
-    TookPart-whole (g.S.Sink.taken c.args.out.now) (g.S.Sink.taken c.write.new.self) c.as_bytes.result.now _ _ c.in-Ok.ensures.ok c.as_bytes.ensures.value
-
-pub returns-in-Err-Failed-clause-line : goal.returns-in-Err-Failed-clause-line
-returns-in-Err-Failed-clause-line g c = λ is.
-    let failed = c.in-Err-Failed.field-0-is in
-    let error = c.in-Err-Failed.ensures in
-    TookPart-cut (g.S.Sink.taken c.args.out.now) (g.S.Sink.taken c.write.new.self) c.as_bytes.result.now _ _ (error.failed (ap Err failed)) c.as_bytes.ensures.value
-    (Rose-failed c.in-Err-Failed.field-0 (g.S.Sink.faults c.args.out.now) (g.S.Sink.faults c.write.new.self) failed error.faults)
+    let before = g.S.Sink.taken c.args.out.now in
+    let cause = λ (len : ℕ). Rose (g.S.Sink.faults c.args.out.now) (g.S.Sink.faults c.flush.new.self) in
+    subst (λ taken. TookPart before taken disk_fault_line cause) (sym c.flush.ensures.taken) (TookPart-whole before (g.S.Sink.taken c.write-written.new.self) disk_fault_line cause c.in-Ok.ensures.ok)

@@ -1,0 +1,78 @@
+-- How far a dump has come, block by block.
+use Rattle.std.proofs.Common.{◌≡◌, ℕ, ◌+◌, ◌-◌, ◌≤◌, ◌<◌, min, Bool, true, false, List, [], ◌∷◌, ◌++◌, length, take, drop, Option, Some, None, Result, Ok, Err, refl, sym, ap, ◌∙◌, subst, arith, append_assoc}
+use Rattle.std.specs.Prelude.{IfSome, unwrap_or, option_map}
+use Rattle.std.specs.FinMap.{get}
+use Rattle.std.proofs.lemmas.List.{length-drop, length-take, take-append-drop, drop-drop, drop_all}
+use Rattle.std.proofs.Math.Seq.{take-append_seam}
+use Rattle.rk_bytes.specs.Model.DiskImages.{Told, contents, contents_told, part_of_file}
+use Rattle.rk_log.specs.declared.feed.LogFeed.{LogFeed}
+use Rattle.rk_log.specs.Left.{Left, left, bytes_before}
+use Rattle.rk_log.specs.Steps.{MayFollow}
+use Rattle.rk_ldb.specs.declared.stop.Stop.{Stop}
+use Rattle.rk_ldb.specs.Stops.{TookUpTo}
+use Rattle.rk_ldb.specs.Wrote.{Wrote, dump_lines, BlockWritten, WritesBlock, IsBlock}
+use Rattle.rk_ldb.proofs.Taken.{Wrote-nothing}
+
+-- what holds of the bytes of the file of this name, where the disk tells its files and this is its length
+abbrev pub OfFile : Option Told → List ℕ → ℕ → (List ℕ → Type 0) → Type 0
+OfFile told name size P = IfSome (contents_told told) (λ d. (bytes : List ℕ) → get d name ≡ Some bytes → length bytes ≡ size → P bytes)
+
+pub OfFile-all : (told : Option Told) (name : List ℕ) (size : ℕ) (P : List ℕ → Type 0) → ((bytes : List ℕ) → P bytes) → OfFile told name size P
+OfFile-all None name size P all = tt
+OfFile-all (Some t) name size P all = λ bytes is len. all bytes
+
+pub OfFile-with : (told : Option Told) (name : List ℕ) (size : ℕ) (P Q : List ℕ → Type 0) → ((bytes : List ℕ) → P bytes → Q bytes) → OfFile told name size P → OfFile told name size Q
+OfFile-with None name size P Q f h = tt
+OfFile-with (Some t) name size P Q f h = λ bytes is len. f bytes (h bytes is len)
+
+pub OfFile-both : (told : Option Told) (name : List ℕ) (size : ℕ) (P Q R : List ℕ → Type 0) → ((bytes : List ℕ) → P bytes → Q bytes → R bytes)
+    → OfFile told name size P → OfFile told name size Q → OfFile told name size R
+OfFile-both None name size P Q R f h k = tt
+OfFile-both (Some t) name size P Q R f h k = λ bytes is len. f bytes (h bytes is len) (k bytes is len)
+
+-- The lines of the blocks before this one are written.
+abbrev pub InLog : Option (List ℕ) → Option (List ℕ) → Bool → LogFeed → LogFeed → List ℕ → Type 0
+InLog from now hex first feed bytes = Wrote from now (dump_lines hex (left first bytes).items) (dump_lines hex (left feed (drop (bytes_before feed) bytes)).items)
+
+pub InLog-start : (taken : Option (List ℕ)) (hex : Bool) (feed : LogFeed) (bytes : List ℕ) → bytes_before feed ≡ 0 → InLog taken taken hex feed feed bytes
+InLog-start taken hex feed bytes begin =
+    subst (λ at. Wrote taken taken (dump_lines hex (left feed bytes).items) (dump_lines hex (left feed (drop at bytes)).items)) (sym begin)
+    (Wrote-nothing taken (dump_lines hex (left feed bytes).items))
+
+-- one block more
+pub InLog-block : (from between now : Option (List ℕ)) (hex : Bool) (first old new : LogFeed) (at : ℕ) (block : List ℕ) (is_last : Bool) (result : Result Bool Stop) → bytes_before old ≡ at
+    → WritesBlock between now hex old block is_last result new
+    → (bytes : List ℕ) → InLog from between hex first old bytes → IsBlock at bytes block is_last
+    → BlockWritten from now hex (dump_lines hex (left first bytes).items) (drop (at + length block) bytes) result new
+InLog-block from between now hex first old new at block is_last result before writes bytes h is =
+    writes from (dump_lines hex (left first bytes).items) (drop (at + length block) bytes) is.follows
+    (subst (λ rest. Wrote from between (dump_lines hex (left first bytes).items) (dump_lines hex (left old rest).items)) (ap (λ at. drop at bytes) before ∙ is.parts) h)
+
+-- the blocks up to the next one
+pub InLog-next : (from now : Option (List ℕ)) (hex : Bool) (first new : LogFeed) (at : ℕ) (block : List ℕ) (bytes : List ℕ) → bytes_before new ≡ at + length block
+    → BlockWritten from now hex (dump_lines hex (left first bytes).items) (drop (at + length block) bytes) (Ok false) new → InLog from now hex first new bytes
+InLog-next from now hex first new at block bytes before wrote =
+    subst (λ at. Wrote from now (dump_lines hex (left first bytes).items) (dump_lines hex (left new (drop at bytes)).items)) (sym before) wrote
+
+-- ---- a block that is read
+
+-- the part of a file that is asked for is a block
+block_read : (at size wanted : ℕ) (is_last : Bool) (bytes : List ℕ) → at ≤ size → wanted ≡ min (size - at) 32768 → length bytes ≡ size → (is_last ≡ true → size - at ≤ 32768)
+    → IsBlock at bytes (part_of_file at wanted bytes) is_last
+block_read at size wanted is_last bytes within asked len last =
+    let count : length (take wanted (drop at bytes)) ≡ wanted = length-take wanted (drop at bytes) ∙ omega (arith, within, asked, len, length-drop at bytes) in record {
+      parts = sym (take-append-drop wanted (drop at bytes)) ∙ ap (λ rest. take wanted (drop at bytes) ++ rest) (drop-drop wanted at bytes ∙ ap (λ n. drop n bytes) (omega (arith, count)));
+      follows = λ e. drop_all (at + length (take wanted (drop at bytes))) bytes (omega (arith, count, within, asked, len, last e));
+    }
+
+-- a part that was read into a buffer, whatever stands behind it there
+pub block_in_buffer : (told : Option Told) (name : List ℕ) (at size wanted n : ℕ) (old new after : List ℕ) (is_last : Bool) → at ≤ size → wanted ≡ min (size - at) 32768 → length old ≡ wanted
+    → IfSome (contents_told told) (λ files. let part = part_of_file at (length old) (unwrap_or (get files name) []) in (n ≡ length part) × (new ≡ part ++ drop n old))
+    → (is_last ≡ true → size - at ≤ 32768) → OfFile told name size (λ bytes. IsBlock at bytes (take n (new ++ after)) is_last)
+block_in_buffer None name at size wanted n old new after is_last within asked room read last = tt
+block_in_buffer (Some told) name at size wanted n old new after is_last within asked room read last = λ bytes is len.
+    let found = part_of_file at (length old) (unwrap_or (get (contents told.now) name) []) in
+    let same : found ≡ part_of_file at wanted bytes = (λ i. take (room i) (drop at (unwrap_or (is i) []))) in
+    let front : take n (new ++ after) ≡ found =
+    ap (λ bytes. take n (bytes ++ after)) read.1 ∙ ap (take n) (append_assoc found (drop n old) after) ∙ ap (λ n. take n (found ++ (drop n old ++ after))) read.0 ∙ take-append_seam found (drop (length found) old ++ after) in
+    subst (λ block. IsBlock at bytes block is_last) (sym (front ∙ same)) (block_read at size wanted is_last bytes within asked len last)
