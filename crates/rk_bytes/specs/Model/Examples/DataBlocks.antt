@@ -1,7 +1,6 @@
 -- Data blocks, range deletions and index blocks that are read, or refused.
 use Rattle.std.specs.Prelude.{◌≡◌, ℕ, ◌+◌, Bool, true, false, List, [], ◌∷◌, ◌++◌, length, map, Option, Some, None, Result, Ok, Err, codes, refl}
 use Rattle.rk_bytes.specs.declared.model.block.IndexEntry.{IndexEntry}
-use Rattle.rk_bytes.specs.declared.model.block.Property.{Property}
 use Rattle.rk_bytes.specs.declared.model.block.RangeDel.{RangeDel}
 use Rattle.rk_bytes.specs.declared.model.table.TableWhy.TheVariants.{Block, BadKey, BadOrder, BadSeparator}
 use Rattle.rk_bytes.specs.declared.model.table.TableWhat.TheVariants.{RecordKind}
