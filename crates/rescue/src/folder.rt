@@ -117,14 +117,10 @@ impl<'r, R: Files> FolderDisk<'r, R> {
 
     // The regular file of that path, or `None` where the folder has none there.
     fn open(&self, path: Option<&PathBuf>) -> io::Result<Option<R::File>> {
+        let found = self.length_in_folder(path)?.is_some();
         match path {
-            Some(path) if self.length_in_folder(Some(path))?.is_some() => {
-                Ok(Some(File::open(self.rt, path.as_path())?))
-            }
-            _ => {
-                self.check_folder()?;
-                Ok(None)
-            }
+            Some(path) if found => Ok(Some(File::open(self.rt, path.as_path())?)),
+            _ => Ok(None),
         }
     }
 
