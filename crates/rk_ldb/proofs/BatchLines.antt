@@ -1,5 +1,5 @@
 -- The lines of a record's payload.
-use Rattle.std.proofs.Common.{◌≡◌, ℕ, Bool, List, [], ◌∷◌, map, Result, Ok, Err, refl, sym, ap, ◌∙◌, subst}
+use Rattle.std.proofs.Common.{◌≡◌, ℕ, Bool, List, [], ◌∷◌, map, Result, Ok, Err, refl, sym, ap, ◌∙◌}
 use Rattle.rk_bytes.specs.declared.model.batch.BatchFault.{BatchFault}
 use Rattle.rk_bytes.specs.Model.WriteBatch.{Batch, batch_of}
 use Rattle.rk_bytes.specs.Model.Lines.{item_line, batch_line, part_line, bad_line, batch_fault_words, batch_lines}
@@ -17,7 +17,7 @@ these_lines : (hex : Bool) (payload : List ℕ) → batch_lines hex payload ≡ 
 unfolding batch_lines
 these_lines hex payload = by (batch_of payload)
   where
-    by : (read : Result Batch BatchFault) → elim read [ | Ok batch ↦ batch_line batch ∷ map (part_line hex) batch.parts | Err why ↦ bad_line (batch_fault_words why) ∷ [] ] ≡ lines_of hex read
+    by : (read : Result Batch BatchFault) → elim read [ Ok batch ↦ batch_line batch ∷ map (part_line hex) batch.parts | Err why ↦ bad_line (batch_fault_words why) ∷ [] ] ≡ lines_of hex read
     by (Ok batch) = refl
     by (Err why) = refl
 

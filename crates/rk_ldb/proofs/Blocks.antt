@@ -1,15 +1,13 @@
 -- How far a dump has come, block by block.
-use Rattle.std.proofs.Common.{◌≡◌, ℕ, ◌+◌, ◌-◌, ◌≤◌, ◌<◌, min, Bool, true, false, List, [], ◌∷◌, ◌++◌, length, take, drop, Option, Some, None, Result, Ok, Err, refl, sym, ap, ◌∙◌, subst, arith, append_assoc}
-use Rattle.std.specs.Prelude.{IfSome, unwrap_or, option_map}
+use Rattle.std.proofs.Common.{◌≡◌, ℕ, ◌+◌, ◌-◌, ◌≤◌, min, Bool, true, false, List, [], ◌++◌, length, take, drop, Option, Some, None, Result, Ok, sym, ap, ◌∙◌, subst, arith, append_assoc}
+use Rattle.std.specs.Prelude.{IfSome, unwrap_or}
 use Rattle.std.specs.FinMap.{get}
 use Rattle.std.proofs.lemmas.List.{length-drop, length-take, take-append-drop, drop-drop, drop_all}
 use Rattle.std.proofs.Math.Seq.{take-append_seam}
 use Rattle.rk_bytes.specs.Model.DiskImages.{Told, contents, contents_told, part_of_file}
 use Rattle.rk_log.specs.declared.feed.LogFeed.{LogFeed}
-use Rattle.rk_log.specs.Left.{Left, left, bytes_before}
-use Rattle.rk_log.specs.Steps.{MayFollow}
+use Rattle.rk_log.specs.Left.{left, bytes_before}
 use Rattle.rk_ldb.specs.declared.stop.Stop.{Stop}
-use Rattle.rk_ldb.specs.Stops.{TookUpTo}
 use Rattle.rk_ldb.specs.Wrote.{Wrote, dump_lines, BlockWritten, WritesBlock, IsBlock}
 use Rattle.rk_ldb.proofs.Taken.{Wrote-nothing}
 

@@ -1,5 +1,5 @@
 -- How far a dump has come.
-use Rattle.std.proofs.Common.{◌≡◌, ℕ, ◌<◌, Bool, true, false, List, [], ◌∷◌, ◌++◌, length, Option, Result, Ok, Err, refl, sym, ap, ◌∙◌, subst, arith}
+use Rattle.std.proofs.Common.{◌≡◌, ℕ, ◌<◌, Bool, true, false, List, [], ◌++◌, length, Option, Ok, Err, refl, sym, ap, ◌∙◌, subst, arith}
 use Rattle.std.specs.Prelude.{codes}
 use Rattle.std.proofs.lemmas.List.{append-nil}
 use Rattle.std.proofs.lemmas.Bool.{true≢false}
@@ -57,8 +57,8 @@ pub InBlock-more : (from between now : Option (List ℕ)) (hex : Bool) (old mid 
     → GivesItem mid block is_last item new → is_end item ≡ false → Took between now (joined (these_lines hex item)) → InBlock from now hex old new block is_last
 InBlock-more from between now hex old mid new block is_last item h gives more took = record {
   lines = λ start all rest follows wrote.
-    let given = given_lines hex (left mid (block ++ rest)) (left new (block ++ rest)) item (gives.gives rest follows) more in
-    Wrote-more start between now all (these_lines hex item) (dump_lines hex (left new (block ++ rest)).items) (subst (Wrote start between all) given (h.lines start all rest follows wrote)) took;
+      let given = given_lines hex (left mid (block ++ rest)) (left new (block ++ rest)) item (gives.gives rest follows) more in
+      Wrote-more start between now all (these_lines hex item) (dump_lines hex (left new (block ++ rest)).items) (subst (Wrote start between all) given (h.lines start all rest follows wrote)) took;
   before = gives.before ∙ h.before;
 }
 

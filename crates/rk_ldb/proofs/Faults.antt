@@ -9,8 +9,8 @@ use Rattle.rk_disk.specs.declared.sink.SinkErr.{SinkErr}
 use Rattle.rk_disk.specs.declared.sink.SinkErr.TheVariants as sink
 use Rattle.rk_disk.specs.Faults.{sink_failed}
 use Rattle.rk_ldb.specs.declared.stop.Stop.{Stop}
-use Rattle.rk_ldb.specs.declared.stop.Stop.TheVariants.{Disk, Sink, Memory}
-use Rattle.rk_ldb.specs.Stops.{TookUpTo, SinkCounts, DiskCounts}
+use Rattle.rk_ldb.specs.declared.stop.Stop.TheVariants.{Disk, Memory}
+use Rattle.rk_ldb.specs.Stops.{TookUpTo, SinkCounts}
 use Rattle.rk_ldb.specs.Answers.{EndsInFault, TookPart}
 use Rattle.rk_ldb.proofs.Taken.{took_nothing, took_more}
 

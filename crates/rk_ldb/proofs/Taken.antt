@@ -120,6 +120,7 @@ line_then T before between now all lines line said result is same took more = by
   where
     h : Wrote before between all (lines ++ [])
     h = Wrote-line before before between all (lines ++ []) line said (subst (Wrote before before all) (is ∙ ap (λ lines. line ∷ lines) (sym (append-nil lines))) (Wrote-nothing before all)) same took
+
     by : (result : Result T Stop) → TookUpTo between now lines result → TookUpTo before now all result
     by (Ok x) more = Wrote-all before now all (Wrote-more before between now all lines [] h more)
     by (Err stop) more = Wrote-stopped T T before between now all lines [] stop h more

@@ -1,5 +1,5 @@
 -- What a command has written so far of its lines, and what a part of it writes.
-use Rattle.std.specs.Prelude.{◌≡◌, ℕ, ◌+◌, Bool, true, false, List, [], ◌++◌, length, drop, map, flat_map, Option, Result, Ok, Err, codes}
+use Rattle.std.specs.Prelude.{◌≡◌, ℕ, ◌+◌, Bool, true, false, List, ◌++◌, length, drop, flat_map, Option, Result, Ok, Err, codes}
 use Rattle.rk_bytes.specs.Model.LogItems.{Item}
 use Rattle.rk_bytes.specs.Model.Lines.{batch_lines}
 use Rattle.rk_bytes.specs.Model.Output.{Took, joined, item_lines}

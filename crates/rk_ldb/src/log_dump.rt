@@ -199,12 +199,7 @@ fn write_item<S: Sink>(
 }
 
 /// Writes the lines of a record's payload, which is a write batch or none.
-fn write_batch<S: Sink>(
-    payload: &[u8],
-    hex: bool,
-    line: &mut Line,
-    out: &mut S,
-) -> Result<(), Stop>
+fn write_batch<S: Sink>(payload: &[u8], hex: bool, line: &mut Line, out: &mut S) -> Result<(), Stop>
     ensures lines { TookUpTo (S.taken out.old) (S.taken out.new) (batch_lines hex payload.now) result }
     ensures counts { OutputStops (S.faults out.old) (S.faults out.new) result }
 {

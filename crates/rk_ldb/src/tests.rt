@@ -1,7 +1,7 @@
 //! Whole runs over a disk and an output in memory.
 use crate::{Status, run};
 use rk_bytes::{Memory, Text};
-use rk_disk::{MemDisk, MemSink};
+use rk_disk::{LyingDisk, MemDisk, MemSink};
 use std::alloc::Global;
 use std::process::Abort;
 use std::test::Fail;
@@ -9,7 +9,11 @@ use std::test::Fail;
 const USAGE: &str = "usage: scan get families manifest_dump dump_wal check repair sst drill\n";
 
 /// What is written of the log of two records.
-const WHOLE: &str = "record 0 17\nrecord 24 17\nend 48 Clean\n";
+const WHOLE: &str =
+    "record 0 17\n  batch 1 1\n  put 0 \"a\"@1 => \"1\"\nrecord 24 17\n  batch 2 1\n  put 0 \"b\"@2 => \"2\"\nend 48 Clean\n";
+
+/// Where each of these lines ends, after the begin of the first.
+const ENDS: [usize; 8] = [0, 12, 24, 45, 58, 70, 91, 104];
 
 /// A log of two records, each a write batch of one put. Its checksums are computed elsewhere.
 const TWO_RECORDS: [u8; 48] = [
@@ -76,7 +80,7 @@ fn expect_fault<R: Abort + AllocGlobal>(
 
 #[test]
 fn words_in_no_grammar_are_answered_with_the_usage_line(rt: HostRuntime) -> Result<(), Fail> {
-    let cases: [&[&str]; 13] = [
+    let cases: [&[&str]; 15] = [
         &[],
         &[""],
         &["dump_wal"],
@@ -88,6 +92,8 @@ fn words_in_no_grammar_are_answered_with_the_usage_line(rt: HostRuntime) -> Resu
         &["dump_wal", "3x"],
         &["dump_wal", "18446744073709551616"],
         &["dump_wal", "3", "4"],
+        &["dump_wal", "--hex", "3"],
+        &["dump_wal", "3", "--hex", "--hex"],
         &["dump", "3"],
         &["3", "dump_wal"],
     ];
@@ -132,7 +138,7 @@ fn a_log_is_dumped(rt: HostRuntime) -> Result<(), Fail> {
         done,
     )?;
     expect_dump(&rt, Some(("000000.log", empty)), "0", "end 0 Clean\n", done)?;
-    let first = "record 0 17\nend 24 Clean\n";
+    let first = "record 0 17\n  batch 1 1\n  put 0 \"a\"@1 => \"1\"\nend 24 Clean\n";
     expect_dump(
         &rt,
         Some(("12345678.log", &records[..24])),
@@ -176,15 +182,88 @@ fn each_call_of_the_disk_may_fail(rt: HostRuntime) -> Result<(), Fail> {
     Ok(())
 }
 
-/// The output takes three lines.
+/// The output takes seven lines.
 #[test]
 fn each_call_of_the_output_may_fail(rt: HostRuntime) -> Result<(), Fail> {
-    let fault = Status::SinkFault;
-    expect_fault(&rt, (None, Some(1)), "", fault)?;
-    expect_fault(&rt, (None, Some(2)), "record 0 17\n", fault)?;
-    let two = "record 0 17\nrecord 24 17\n";
-    expect_fault(&rt, (None, Some(3)), two, fault)?;
-    expect_fault(&rt, (None, Some(4)), WHOLE, Status::Done)?;
+    for (lines, end) in ENDS.iter().enumerate() {
+        let status = if lines < 7 {
+            Status::SinkFault
+        } else {
+            Status::Done
+        };
+        let file = Some(("000003.log", TWO_RECORDS.as_slice()));
+        let failing = (None, Some(lines as u64 + 1));
+        let (ended, _, out) = outcome(rt.alloc(), file, failing, &["dump_wal", "3"])?;
+        assert_eq!(rt;
+            out.taken(),
+            &WHOLE.as_bytes()[..*end],
+            "after {lines} lines"
+        );
+        assert_eq!(rt; ended, status);
+    }
+    Ok(())
+}
+
+#[test]
+fn bytes_are_shown_as_asked_for(rt: HostRuntime) -> Result<(), Fail> {
+    let file = Some(("000003.log", &TWO_RECORDS[24..]));
+    let words = ["dump_wal", "3", "--hex"];
+    let (_, _, out) = outcome(rt.alloc(), file, (None, None), &words)?;
+    let lines = "record 0 17\n  batch 2 1\n  put 0 0x62@2 => 0x32\nend 24 Clean\n";
+    assert_eq!(rt; out.taken(), lines.as_bytes());
+    Ok(())
+}
+
+/// A record of one byte is no batch. Its checksum is computed elsewhere.
+#[test]
+fn what_is_no_batch_is_said(rt: HostRuntime) -> Result<(), Fail> {
+    let record = [0xb5, 0xcd, 0x0b, 0xa2, 1, 0, 1, b'a'];
+    let lines = "record 0 1\n  bad TooSmall\nend 8 Clean\n";
+    expect_dump(
+        &rt,
+        Some(("000003.log", record.as_slice())),
+        "3",
+        lines,
+        Status::Done,
+    )
+}
+
+/// Two records of zeros, the first of which ends six bytes before the first block does. Their checksums
+/// are computed elsewhere.
+#[test]
+fn a_block_is_written_before_the_next_one_is_read(rt: HostRuntime) -> Result<(), Fail> {
+    let alloc = rt.alloc();
+    let mut log = vec![in alloc; 0u8; 32_776]?;
+    log[..7].copy_from_slice(&[0x3d, 0xc5, 0x53, 0x47, 0xf3, 0x7f, 1]);
+    log[32_768..32_775].copy_from_slice(&[0x5f, 0xb0, 0xce, 0x81, 1, 0, 1]);
+    let mut disk = MemDisk::new(alloc)?;
+    disk.put_file("000003.log", log.as_slice())?;
+    disk.fail_from("000003.log", 32_768)?;
+    let mut out = MemSink::new(alloc);
+    let words = [
+        Text::copy_of(alloc, "dump_wal")?,
+        Text::copy_of(alloc, "3")?,
+    ];
+    let status = run(alloc, &words, &mut disk, &mut out);
+    let lines = "record 0 32755\n  bad BadRecord 32754\nfault: disk\n";
+    assert_eq!(rt; out.taken(), lines.as_bytes());
+    assert_eq!(rt; status, Status::DiskFault);
+    Ok(())
+}
+
+#[test]
+fn a_size_that_only_is_said_takes_no_memory(rt: HostRuntime) -> Result<(), Fail> {
+    let alloc = rt.alloc();
+    let mut disk = LyingDisk::new(alloc);
+    disk.say("000003.log", 1 << 62, b"")?;
+    let mut out = MemSink::new(alloc);
+    let words = [
+        Text::copy_of(alloc, "dump_wal")?,
+        Text::copy_of(alloc, "3")?,
+    ];
+    let status = run(alloc, &words, &mut disk, &mut out);
+    assert_eq!(rt; out.taken(), b"end 0 Clean\n".as_slice());
+    assert_eq!(rt; status, Status::Done);
     Ok(())
 }
 

@@ -1,4 +1,4 @@
-use Rattle.std.proofs.Common.{◌≡◌, ◌∷◌, [], length, Some, None, Ok, Err, sym, ap, ◌∙◌, subst}
+use Rattle.std.proofs.Common.{◌≡◌, ◌∷◌, [], length, Some, Ok, Err, sym, ap, ◌∙◌, subst}
 use Rattle.std.specs.Prelude.{IfSome, option_map}
 use Rattle.std.specs.FinMap.{get}
 use Rattle.std.proofs.lemmas.Result.{err_from_is_err_and}
@@ -23,9 +23,9 @@ returns-in_err-write_log-in-Some-clause-lines g c =
     let stop = c.in_err-write_log-in-Some.field-0.0 in
     let stopped = err_from_is_err_and c.from_residual-in_err-write_log-in-Some.result c.from_residual-in_err-write_log-in-Some.ensures.1 in
     let sized = subst (λ name. IfSome (contents_told told) (λ files. Some c.in-Some.size ≡ option_map length (get files name))) (c.as_str.ensures.value ∙ sym c.as_str-in-Some.ensures.value)
-        (subst (λ size. IfSome (contents_told told) (λ files. size ≡ option_map length (get files c.as_str.result.now))) c.in-Some.is c.in_ok-size.ensures.size) in
+    (subst (λ size. IfSome (contents_told told) (λ files. size ≡ option_map length (get files c.as_str.result.now))) c.in-Some.is c.in_ok-size.ensures.size) in
     let lines = subst (λ told. OfFile told name c.in-Some.size (λ bytes. TookUpTo {T = Unit {0}} from now (dump_lines c.args.hex (log_items c.args.number bytes)) (Err stop))) c.in_ok-size.ensures.left
-        c.in_err-write_log-in-Some.ensures.lines in
+    c.in_err-write_log-in-Some.ensures.lines in
     found_log told c.args.number c.in-Some.size c.args.hex name (λ lines. TookUpTo from now lines c.from_residual-in_err-write_log-in-Some.result) (c.as_str-in-Some.ensures.value ∙ c.in_ok-name.ensures) sized
     (OfFile-with told name c.in-Some.size (λ bytes. TookUpTo {T = Unit {0}} from now (dump_lines c.args.hex (log_items c.args.number bytes)) (Err stop))
     (λ bytes. TookUpTo from now (dump_lines c.args.hex (log_items c.args.number bytes)) c.from_residual-in_err-write_log-in-Some.result)

@@ -1,4 +1,4 @@
-use Rattle.std.proofs.Common.{◌-◌, ◌∙◌, length, take, drop, arith}
+use Rattle.std.proofs.Common.{◌-◌, ◌∙◌, take, drop, arith}
 use Rattle.std.proofs.lemmas.List.{length-take}
 use Rattle.std.proofs.lemmas.Bool.{eqb-true}
 use Rattle.rk_ldb.proofs.Blocks.{block_in_buffer}

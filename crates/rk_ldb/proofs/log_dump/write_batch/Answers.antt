@@ -1,4 +1,4 @@
-use Rattle.std.proofs.Common.{◌∷◌, [], map, Err, sym, ap, ◌∙◌, subst}
+use Rattle.std.proofs.Common.{map, Err, sym, ap, ◌∙◌, subst}
 use Rattle.std.proofs.lemmas.Result.{err_from_is_err_and}
 use Rattle.rk_bytes.specs.Model.Lines.{batch_line, part_line, bad_line, batch_fault_words, batch_lines}
 use Rattle.rk_ldb.specs.Stops.{TookUpTo}

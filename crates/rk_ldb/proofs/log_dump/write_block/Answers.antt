@@ -1,7 +1,7 @@
 use Rattle.std.proofs.Common.{Ok, Err, sym, ap, ◌∙◌, subst}
 use Rattle.std.proofs.lemmas.Result.{err_from_is_err_and}
 use Rattle.rk_log.specs.Items.{item_of}
-use Rattle.rk_log.specs.Steps.{GivesItem, GoesOn, Feeds}
+use Rattle.rk_log.specs.Steps.{Feeds}
 use Rattle.rk_ldb.specs.Wrote.{WritesBlock}
 use Rattle.rk_ldb.proofs.Dumping.{InBlock-more, InBlock-end, InBlock-stopped, InBlock-no_memory, InBlock-goes_on, fewer_left}
 use Rattle.rk_ldb.proofs.log_dump.write_block.Goals as goal

@@ -31,7 +31,7 @@ returns-in_err-write_batch-in-Rec-clause-lines g c =
     let payload = c.as_slice-in-Rec.result.now in
     let stop = c.in_err-write_batch-in-Rec.field-0.0 in
     let lines = first_line c.args.hex item
-        ∙ ap (λ lines. item_line (codes "record") item ∷ lines) (ap (λ item. later_lines c.args.hex (item_of item)) c.in-Rec.is ∙ ap (batch_lines c.args.hex) (sym c.as_slice-in-Rec.ensures)) in
+    ∙ ap (λ lines. item_line (codes "record") item ∷ lines) (ap (λ item. later_lines c.args.hex (item_of item)) c.in-Rec.is ∙ ap (batch_lines c.args.hex) (sym c.as_slice-in-Rec.ensures)) in
     let stopped = err_from_is_err_and c.from_residual-in_err-write_batch-in-Rec.result c.from_residual-in_err-write_batch-in-Rec.ensures.1 in
     subst (TookUpTo before after all) (sym (stopped.1 ∙ ap Err stopped.2))
     (TookUpTo-stop (Unit {0}) Bool before after all stop

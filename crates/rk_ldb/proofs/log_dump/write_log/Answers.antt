@@ -1,4 +1,4 @@
-use Rattle.std.proofs.Common.{Err, subst}
+use Rattle.std.proofs.Common.{subst}
 use Rattle.rk_bytes.specs.Model.LogItems.{log_items}
 use Rattle.rk_log.specs.Left.{Left, left}
 use Rattle.rk_ldb.specs.Stops.{TookUpTo}

@@ -1,4 +1,4 @@
-use Rattle.std.proofs.Common.{◌∷◌, map, Err, refl, sym, ap, ◌∙◌, subst}
+use Rattle.std.proofs.Common.{map, Err, sym, ap, ◌∙◌, subst}
 use Rattle.std.proofs.lemmas.Result.{err_from_is_err_and}
 use Rattle.rk_bytes.specs.Model.Lines.{part_line}
 use Rattle.rk_batch.specs.Seen.{part_of}

@@ -1,8 +1,8 @@
-use Rattle.std.proofs.Common.{◌≡◌, ◌⊎◌, ℕ, Ok, Err, sym, subst}
+use Rattle.std.proofs.Common.{◌≡◌, ◌⊎◌, Ok, Err, sym, subst}
 use Rattle.rk_bytes.specs.declared.model.status.Status.{Status}
 use Rattle.rk_bytes.specs.Model.DiskImages.{Rose, contents_told}
 use Rattle.rk_bytes.specs.Model.Lines.{disk_fault_line, memory_fault_line}
-use Rattle.rk_bytes.specs.Model.Output.{TookFront, text, joined}
+use Rattle.rk_bytes.specs.Model.Output.{TookFront, text}
 use Rattle.rk_ldb.specs.Answers.{EndsInFault}
 use Rattle.rk_ldb.specs.Built.{output_so_far}
 use Rattle.rk_ldb.specs.Stops.{TookUpTo}
