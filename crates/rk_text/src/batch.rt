@@ -1,15 +1,37 @@
 //! The lines of write batches.
-ghost use Rattle.std.specs.Prelude.{◌≡◌, ◌++◌, false, OnOk};
+ghost use Rattle.std.specs.Prelude.{◌≡◌, ◌∷◌, ◌++◌, map, false, IfOk, OnOk};
 ghost use Rattle.rk_bytes.specs.Model.WriteBatch.{change, log_bytes};
-ghost use Rattle.rk_bytes.specs.Model.Lines.{bad_line, batch_fault_words, change_word, change_value, key_at, part_line};
+ghost use Rattle.rk_bytes.specs.Model.Lines.{bad_line, batch_fault_words, batch_line, batch_lines, change_word, change_value, key_at, part_line};
+ghost use Rattle.rk_bytes.specs.Model.Output.{joined};
 ghost use Rattle.rk_batch.specs.Seen.{part_of};
 
 use crate::Line;
-use rk_batch::{BatchFault, BatchRecord};
-use rk_bytes::Memory;
+use rk_batch::{BatchFault, BatchRecord, BatchView};
 use rk_bytes::model::Kind;
+use rk_bytes::{Bytes, Memory};
+use std::alloc::Global;
+
+/// The lines of the batch that the bytes are, one after the other: that of the batch and those of its
+/// parts, or, where the bytes don't read, the line of the first fault. `Memory` comes only where memory
+/// runs out.
+pub fn batch_lines(alloc: Global, bytes: &[u8], hex: bool) -> Result<Bytes, Memory>
+    ensures { IfOk result (λ lines. lines ≡ joined (batch_lines hex bytes.now)) }
+{
+    let mut lines = Line::new(alloc);
+    lines.put_batch_lines(bytes, hex)?;
+    Ok(lines.into_bytes())
+}
 
 impl Line {
+    /// Makes this the line of a batch, with its sequence number and its count of changes. `Memory`
+    /// comes only where memory runs out.
+    pub fn set_batch(&mut self, view: &BatchView<'_>) -> Result<(), Memory>
+        ensures { OnOk result (self.new ≡ batch_line view.now.batch) }
+    {
+        self.clear();
+        self.put_batch(view)
+    }
+
     /// Makes this the line of a part of a batch, with its bytes in hexadecimal or between quotation
     /// marks. `Memory` comes only where memory runs out.
     pub fn set_part(&mut self, part: &BatchRecord<'_>, hex: bool) -> Result<(), Memory>
@@ -26,6 +48,43 @@ impl Line {
     {
         self.clear();
         self.put_bad_batch(fault)
+    }
+
+    /// Puts the lines of the batch that the bytes are at the end, or that of the first fault.
+    fn put_batch_lines(&mut self, bytes: &[u8], hex: bool) -> Result<(), Memory>
+        ensures { OnOk result (self.new ≡ self.old ++ joined (batch_lines hex bytes.now)) }
+    {
+        match BatchView::read(bytes) {
+            Ok(view) => self.put_view(view, hex),
+            Err(fault) => self.put_bad_batch(fault),
+        }
+    }
+
+    /// Puts the line of a batch at the end, and those of its parts that weren't handed out yet.
+    fn put_view(&mut self, view: BatchView<'_>, hex: bool) -> Result<(), Memory>
+        ensures { OnOk result (self.new ≡ self.old ++ joined (batch_line view.entry.batch ∷ map (part_line hex) view.entry.left)) }
+    {
+        self.put_batch(&view)?;
+        self.put_parts(view, hex)
+    }
+
+    /// Puts the lines of the parts that weren't handed out yet at the end.
+    fn put_parts(&mut self, mut view: BatchView<'_>, hex: bool) -> Result<(), Memory>
+        ensures { OnOk result (self.new ≡ self.old ++ joined (map (part_line hex) view.entry.left)) }
+    {
+        while let Some(part) = view.next_record() {
+            self.put_part(&part, hex)?;
+        }
+        Ok(())
+    }
+
+    /// Puts the line of a batch at the end.
+    fn put_batch(&mut self, view: &BatchView<'_>) -> Result<(), Memory>
+        ensures { OnOk result (self.new ≡ self.old ++ batch_line view.now.batch) }
+    {
+        self.put_with_number(b"  batch", view.sequence())?;
+        self.put_number(u64::from(view.count()))?;
+        self.end()
     }
 
     /// Puts the line of a part at the end.

@@ -7,7 +7,11 @@ mod key;
 mod line;
 mod quote;
 
+pub use batch::batch_lines;
 pub use item::item_line;
 pub use key::key_text;
 pub use line::Line;
 pub use quote::quoted;
+
+#[cfg(test)]
+mod tests;
