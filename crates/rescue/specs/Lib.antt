@@ -1,1 +1,2 @@
 pub mod FolderDisk
+pub mod HandsOn

@@ -15,16 +15,18 @@ use std::rt::Files;
 use std::{fs, io};
 
 /// A folder of the system as a disk: its files, and those of its subfolder `lost` as `lost/NAME`.
-/// It tells no contents. Contracts see the folder's path and the count of its failures.
+/// It tells no contents. It keeps the last file that was read open, and a folder that isn't there is a
+/// failure of each call. Contracts see the folder's path and the count of its failures.
 #[derive(Drop)]
-pub struct FolderDisk<'r, R> {
+pub struct FolderDisk<'r, R: Files> {
     rt: &'r R,
     alloc: Global,
     path: PathBuf,
+    opened: Option<Opened<R::File>>,
     failures: u64,
 }
 
-impl<'r, R> Model for FolderDisk<'r, R> {
+impl<'r, R: Files> Model for FolderDisk<'r, R> {
     ghost use Rattle.std.specs.Path.{path_buf_bytes};
     ghost use Rattle.rescue.specs.FolderDisk.{Folder};
 
@@ -43,6 +45,7 @@ impl<'r, R: Files> FolderDisk<'r, R> {
             rt,
             alloc,
             path: PathBuf::from_str(alloc, path)?,
+            opened: None,
             failures: 0,
         })
     }
@@ -92,18 +95,53 @@ impl<'r, R: Files> FolderDisk<'r, R> {
         Ok(Some(self.path.join(self.alloc, name)?))
     }
 
-    // Fills the front of the buffer with the bytes of the regular file at the path from `at` on.
-    fn part_at(&self, path: Path<'_>, at: u64, buf: &mut [u8]) -> io::Result<usize>
-        ensures { IfOk result (λ n. n ≤ length buf.old) }
-    {
-        match self.length_at(path)? {
-            Some(length) if at < length => {
-                let mut file = File::open(self.rt, path)?;
-                file.seek(SeekFrom::Start(at))?;
-                fill(&mut file, buf)
-            }
-            _ => Ok(0),
+    // An error where the folder itself isn't there.
+    fn check_folder(&self) -> io::Result<()> {
+        if fs::metadata(self.rt, self.path.as_path())?.is_dir() {
+            Ok(())
+        } else {
+            Err(io::Error::from(ErrorKind::NotADirectory))
         }
+    }
+
+    // The length of the regular file of that path, or `None` where the folder has none there.
+    fn length_in_folder(&self, path: Option<&PathBuf>) -> io::Result<Option<u64>> {
+        if let Some(path) = path {
+            if let Some(length) = self.length_at(path.as_path())? {
+                return Ok(Some(length));
+            }
+        }
+        self.check_folder()?;
+        Ok(None)
+    }
+
+    // The regular file of that path, or `None` where the folder has none there.
+    fn open(&self, path: Option<&PathBuf>) -> io::Result<Option<R::File>> {
+        let found = self.length_in_folder(path)?.is_some();
+        match path {
+            Some(path) if found => Ok(Some(File::open(self.rt, path.as_path())?)),
+            _ => Ok(None),
+        }
+    }
+
+    // The file of that name, opened now or before, or `None` where there is none.
+    fn opened(&mut self, name: &str) -> Result<Option<Opened<R::File>>, DiskErr>
+        ensures faults { Counts (disk_failed result) self.old.failures self.new.failures }
+    {
+        if let Some(opened) = self.opened.take() {
+            if opened.name.as_str() == name {
+                return Ok(Some(opened));
+            }
+        }
+        let path = self.path_of(name)?;
+        let name = Text::copy_of(self.alloc, name)?;
+        let answer = self.open(path.as_ref());
+        let file = self.counted(answer)?;
+        Ok(file.map(|file| Opened {
+            name,
+            file,
+            place: 0,
+        }))
     }
 
     fn all_names(&self) -> io::Result<Vec<String>>
@@ -152,19 +190,46 @@ impl<'r, R: Files> Disk for FolderDisk<'r, R> {
     }
 
     fn size(&mut self, name: &str) -> Result<Option<u64>, DiskErr> {
-        let Some(path) = self.path_of(name)? else {
-            return Ok(None);
-        };
-        let answer = self.length_at(path.as_path());
+        let path = self.path_of(name)?;
+        let answer = self.length_in_folder(path.as_ref());
         self.counted(answer)
     }
 
     fn read(&mut self, name: &str, at: u64, buf: &mut [u8]) -> Result<usize, DiskErr> {
-        let Some(path) = self.path_of(name)? else {
+        let Some(mut opened) = self.opened(name)? else {
             return Ok(0);
         };
-        let answer = self.part_at(path.as_path(), at, buf);
-        self.counted(answer)
+        let answer = opened.read(at, buf);
+        let n = self.counted(answer)?;
+        self.opened = Some(opened);
+        Ok(n)
+    }
+}
+
+// A file that was opened to be read, its name, and how far it was read.
+#[derive(Drop)]
+struct Opened<F> {
+    name: Text,
+    file: F,
+    place: u64,
+}
+
+impl<F: Read + Seek> Opened<F> {
+    // Fills the front of the buffer with the bytes from `at` on, and says how many these are. The place
+    // isn't known after an `Err`.
+    fn read(&mut self, at: u64, buf: &mut [u8]) -> io::Result<usize>
+        ensures { IfOk result (λ n. n ≤ length buf.old) }
+    {
+        // The system has no place past this one.
+        if at > i64::MAX as u64 {
+            return Ok(0);
+        }
+        if at != self.place {
+            self.file.seek(SeekFrom::Start(at))?;
+        }
+        let n = fill(&mut self.file, buf)?;
+        self.place = at.saturating_add(n as u64);
+        Ok(n)
     }
 }
 

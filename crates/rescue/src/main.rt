@@ -4,6 +4,7 @@
 #![tactic(auto)]
 
 mod folder;
+mod held;
 mod stdout;
 
 use folder::FolderDisk;

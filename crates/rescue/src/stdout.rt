@@ -1,17 +1,19 @@
-ghost use Rattle.std.specs.Prelude.{◌≡◌, ◌≢◌, ℕ, None, OnOk, OnErr, IfErr, take};
-ghost use Rattle.std.specs.IoError.{error_kind};
-ghost use Rattle.std.specs.Io.KnownBytes.{Appends};
+ghost use Rattle.std.specs.Prelude.{◌≡◌, ℕ, None, IfErr};
+ghost use Rattle.rk_bytes.specs.Model.DiskImages.{Counts};
+ghost use Rattle.rk_disk.specs.Faults.{sink_failed};
 
+use crate::held::Held;
 use rk_disk::{Sink, SinkErr};
 use std::io;
-use std::io::{ErrorKind, Write};
 use std::marker::Model;
 
-/// The standard output of a runtime. It tells nothing of what it took. Contracts see the count of its
+/// The standard output of a runtime. It holds back up to 64 KiB of what it took, until there is no
+/// room for more or it is flushed, and tells nothing of what it took. Contracts see the count of its
 /// failures.
 #[derive(Drop)]
 pub struct StdoutSink<'r, R> {
     rt: &'r R,
+    held: Held,
     failures: u64,
 }
 
@@ -28,7 +30,25 @@ impl<'r, R: Print> StdoutSink<'r, R> {
     pub fn new(rt: &'r R) -> StdoutSink<'r, R>
         ensures { result ≡ 0 }
     {
-        StdoutSink { rt, failures: 0 }
+        StdoutSink {
+            rt,
+            held: Held::new(),
+            failures: 0,
+        }
+    }
+
+    // The answer to the caller. A failure of the system is counted.
+    fn counted(&mut self, answer: io::Result<()>) -> Result<(), SinkErr>
+        ensures failed { IfErr result (λ error. error ≡ SinkErr.Failed) }
+        ensures count { Counts (sink_failed result) self.old self.new }
+    {
+        match answer {
+            Ok(()) => Ok(()),
+            Err(_) => {
+                self.failures = self.failures.saturating_add(1);
+                Err(SinkErr::Failed)
+            }
+        }
     }
 }
 
@@ -38,39 +58,14 @@ impl<'r, R: Print> Sink for StdoutSink<'r, R> {
     ghost faults = { λ failures. failures };
 
     fn write(&mut self, bytes: &[u8]) -> Result<(), SinkErr> {
-        match write_whole(&mut io::writer(self.rt), bytes) {
-            Ok(()) => Ok(()),
-            Err(_) => {
-                self.failures = self.failures.saturating_add(1);
-                Err(SinkErr::Failed)
-            }
-        }
+        let answer = self.held.put(&mut io::writer(self.rt), bytes);
+        self.counted(answer)
     }
 
     fn flush(&mut self) -> Result<(), SinkErr> {
-        Ok(())
+        let answer = self.held.hand_on(&mut io::writer(self.rt));
+        self.counted(answer)
     }
-}
-
-// The writer of a runtime keeps nothing back, so that after an Ok the system has all the bytes.
-fn write_whole<W: Write>(to: &mut W, bytes: &[u8]) -> io::Result<()>
-    ensures ok { OnOk result (Appends (W.contents to.old) (W.contents to.new) bytes.now) }
-    ensures err { OnErr result ((n : ℕ) × Appends (W.contents to.old) (W.contents to.new) (take n bytes.now)) }
-    ensures retried { IfErr result (λ error. error_kind error ≢ ErrorKind.Interrupted) }
-{
-    let mut taken = 0;
-    for _ in 0..u64::MAX {
-        if taken == bytes.len() {
-            return Ok(());
-        }
-        match to.write(&bytes[taken..]) {
-            Ok(0) => return Err(io::Error::from(ErrorKind::WriteZero)),
-            Ok(n) => taken += n,
-            Err(error) if error.kind() == ErrorKind::Interrupted => {}
-            Err(error) => return Err(error),
-        }
-    }
-    Err(io::Error::from(ErrorKind::TimedOut))
 }
 
 #[cfg(test)]
@@ -78,13 +73,28 @@ mod tests {
     use super::*;
     use std::cell::Cell;
     use std::fmt::Display;
+    use std::io::ErrorKind;
     use std::test::Fail;
 
-    // Takes two bytes at a call, is interrupted at its second, and has room for so many bytes.
+    // Takes so many bytes at a call, is interrupted at its second, and has room for so many bytes. It
+    // keeps the last ones that it took.
     #[derive(Drop)]
     struct Narrow {
+        most: usize,
         calls: Cell<u64>,
         room: Cell<usize>,
+        last: Cell<[u8; 4]>,
+    }
+
+    impl Narrow {
+        fn new(most: usize, room: usize) -> Narrow {
+            Narrow {
+                most,
+                calls: Cell::new(0),
+                room: Cell::new(room),
+                last: Cell::new([b'-'; 4]),
+            }
+        }
     }
 
     impl Print for Narrow {
@@ -105,8 +115,12 @@ mod tests {
             if self.calls.get() == 2 {
                 return Err(io::Error::from(ErrorKind::Interrupted));
             }
-            let n = bytes.len().min(2).min(self.room.get());
+            let n = bytes.len().min(self.most).min(self.room.get());
             self.room.set(self.room.get().saturating_sub(n));
+            for byte in &bytes[..n] {
+                let [_, b, c, d] = self.last.get();
+                self.last.set([b, c, d, *byte]);
+            }
             Ok(n)
         }
     }
@@ -115,23 +129,50 @@ mod tests {
         out.write(bytes)
     }
 
+    fn flushed<S: Sink>(out: &mut S) -> Result<(), SinkErr> {
+        out.flush()
+    }
+
     #[test]
-    fn all_bytes_are_taken_or_a_failure_is_counted(rt: HostRuntime) -> Result<(), Fail> {
-        assert_eq!(rt; put(&mut StdoutSink::new(&rt), b"taken\n"), Ok(()));
-        let narrow = Narrow {
-            calls: Cell::new(0),
-            room: Cell::new(7),
-        };
+    fn what_was_not_handed_on_is_still_held(rt: HostRuntime) -> Result<(), Fail> {
+        let mut real = StdoutSink::new(&rt);
+        assert_eq!(rt; put(&mut real, b"taken\n"), Ok(()));
+        assert_eq!(rt; flushed(&mut real), Ok(()));
+        let narrow = Narrow::new(2, 7);
         let mut out = StdoutSink::new(&narrow);
-        assert_eq!(rt; put(&mut out, b""), Ok(()));
-        assert_eq!(rt; narrow.calls.get(), 0);
         assert_eq!(rt; put(&mut out, b"12345"), Ok(()));
+        assert_eq!(rt; narrow.calls.get(), 0);
+        assert_eq!(rt; flushed(&mut out), Ok(()));
         assert_eq!(rt; narrow.calls.get(), 4);
-        assert_eq!(rt; narrow.room.get(), 2);
-        assert_eq!(rt; out.failures, 0);
-        assert_eq!(rt; put(&mut out, b"123"), Err(SinkErr::Failed));
-        assert_eq!(rt; narrow.room.get(), 0);
+        assert_eq!(rt; narrow.last.get(), *b"2345");
+        assert_eq!(rt; put(&mut out, b"678"), Ok(()));
+        assert_eq!(rt; flushed(&mut out), Err(SinkErr::Failed));
         assert_eq!(rt; out.failures, 1);
+        assert_eq!(rt; narrow.last.get(), *b"4567");
+        narrow.room.set(9);
+        assert_eq!(rt; put(&mut out, b"9"), Ok(()));
+        assert_eq!(rt; flushed(&mut out), Ok(()));
+        assert_eq!(rt; narrow.last.get(), *b"6789");
+        assert_eq!(rt; narrow.room.get(), 7);
+        Ok(())
+    }
+
+    #[test]
+    fn what_there_is_no_room_for_is_handed_on(rt: HostRuntime) -> Result<(), Fail> {
+        let narrow = Narrow::new(100_000, 200_000);
+        let mut out = StdoutSink::new(&narrow);
+        // The held bytes go once there is no room for more: one call, and one for the interruption.
+        for (bytes, calls) in [
+            ([b'a'; 65_535].as_slice(), 0),
+            (b"b", 0),
+            (b"c", 1),
+            (&[b'd'; 65_537], 4),
+        ] {
+            assert_eq!(rt; put(&mut out, bytes), Ok(()));
+            assert_eq!(rt; narrow.calls.get(), calls);
+        }
+        assert_eq!(rt; narrow.last.get(), *b"dddd");
+        assert_eq!(rt; narrow.room.get(), 200_000 - 65_536 - 1 - 65_537);
         Ok(())
     }
 }

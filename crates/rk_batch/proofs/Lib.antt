@@ -1,5 +1,8 @@
+mod BuilderLemmas
 mod CountLemmas
 mod PartLemmas
 mod ReadLemmas
 mod Shorter
 mod ViewLemmas
+mod WrittenNumbers
+mod WrittenParts

@@ -37,7 +37,7 @@ Within-found file is_full place bytes =
     (λ fits. Within-fragment_found file place bytes (ltb-false _ _ fits)))
 
 -- the marks of bytes, by what is found at their front
-marks_by : LogFile → Bool → ℕ → ℕ → List ℕ → Found → List Mark
+unfoldable pub marks_by : LogFile → Bool → ℕ → ℕ → List ℕ → Found → List Mark
 marks_by file is_full n place bytes nothing = []
 marks_by file is_full n place bytes (whole_rest mark) = mark ∷ []
 marks_by file is_full n place bytes (fragment mark len) = mark ∷ marks_from file is_full n (place + len) (drop len bytes)
@@ -52,7 +52,7 @@ marks_from-found file is_full n place b bytes =
       | fragment mark len ↦ mark ∷ marks_from file is_full n (place + len) (drop len (b ∷ bytes))
     ]) ≡ marks_by file is_full n place (b ∷ bytes) one) [ nothing ↦ refl | whole_rest mark ↦ refl | fragment mark len ↦ refl ]
 
-marks_from-none : (file : LogFile) (is_full : Bool) (n place : ℕ) (bytes : List ℕ) → length bytes ≡ 0 → marks_from file is_full n place bytes ≡ []
+pub marks_from-none : (file : LogFile) (is_full : Bool) (n place : ℕ) (bytes : List ℕ) → length bytes ≡ 0 → marks_from file is_full n place bytes ≡ []
 unfolding marks_from
 marks_from-none file is_full zero place [] none = refl
 marks_from-none file is_full (suc n) place [] none = refl
@@ -67,7 +67,7 @@ same_marks_by file is_full n m place bytes nothing within later = refl
 same_marks_by file is_full n m place bytes (whole_rest mark) within later = refl
 same_marks_by file is_full n m place bytes (fragment mark len) within later = ap (λ marks. mark ∷ marks) (later mark len within.0)
 
-marks_from-bound : (file : LogFile) (is_full : Bool) (n m place : ℕ) (bytes : List ℕ) → length bytes ≤ n → length bytes ≤ m → marks_from file is_full n place bytes ≡ marks_from file is_full m place bytes
+pub marks_from-bound : (file : LogFile) (is_full : Bool) (n m place : ℕ) (bytes : List ℕ) → length bytes ≤ n → length bytes ≤ m → marks_from file is_full n place bytes ≡ marks_from file is_full m place bytes
 marks_from-bound file is_full n m place [] enough also = marks_from-none file is_full n place [] refl ∙ sym (marks_from-none file is_full m place [] refl)
 marks_from-bound file is_full zero m place (b ∷ bytes) enough also = absurd (omega arith)
 marks_from-bound file is_full (suc n) zero place (b ∷ bytes) enough also = absurd (omega arith)
@@ -78,7 +78,7 @@ marks_from-bound file is_full (suc n) (suc m) place (b ∷ bytes) enough also =
     (omega (arith, length-drop len (b ∷ bytes))) (omega (arith, length-drop len (b ∷ bytes))))
     ∙ sym (marks_from-found file is_full m place b bytes)
 
-marks_at : (file : LogFile) (is_full : Bool) (place : ℕ) (bytes : List ℕ) (one : Found) → 0 < length bytes → found file is_full place bytes ≡ one
+pub marks_at : (file : LogFile) (is_full : Bool) (place : ℕ) (bytes : List ℕ) (one : Found) → 0 < length bytes → found file is_full place bytes ≡ one
     → marks_from file is_full (length bytes) place bytes ≡ marks_by file is_full (length bytes - 1) place bytes one
 marks_at file is_full place [] one some is = absurd (omega arith)
 marks_at file is_full place (b ∷ bytes) one some is =

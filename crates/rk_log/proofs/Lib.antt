@@ -4,3 +4,6 @@ mod BlockLemmas
 mod LeftLemmas
 mod FeedLemmas
 mod WriteLemmas
+mod RoundTrip
+mod Stream
+mod ReadBack

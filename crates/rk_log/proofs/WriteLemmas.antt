@@ -1,5 +1,5 @@
 -- The bytes of a log that is written.
-use Rattle.std.proofs.Common.{◌≡◌, ℕ, zero, suc, ◌+◌, ◌-◌, ◌*◌, ◌/◌, ◌%◌, ◌^◌, ◌<◌, ◌≤◌, Bool, true, false, cond, List, [], ◌∷◌, ◌++◌, length, take, drop, Option, Some, None, Result, Ok, Err, refl, sym, ap, subst, ◌∙◌, arith, length-append, length-drop, length-take, append_assoc, inl, inr}
+use Rattle.std.proofs.Common.{◌≡◌, ℕ, zero, suc, ◌+◌, ◌-◌, ◌/◌, ◌%◌, ◌<◌, ◌≤◌, Bool, true, false, cond, List, [], ◌∷◌, ◌++◌, length, take, drop, Option, Some, None, Result, Ok, Err, refl, sym, ap, subst, ◌∙◌, arith, length-append, length-drop, length-take, append_assoc, inl, inr}
 use Rattle.std.proofs.lemmas.Bool.{le-leb, lt-leb, lt-ltb, le-ltb, cases_lt, false≢true}
 use Rattle.std.specs.Prelude.{nat_lt, replicate, OnOk, OnErr}
 use Rattle.std.proofs.lemmas.List.{append-nil, length-replicate}
@@ -77,7 +77,7 @@ pub record IsWriting (number : Option ℕ) (start whole out : List ℕ) (begins 
   pub same : start ++ whole ≡ out ++ parts_bytes number n begins (length out) rest
   pub place : written_header_len number ≤ 32768 - length out % 32768
 
-room_is : (number : Option ℕ) (len : ℕ) → payload_room number len ≡ 32768 - len % 32768 - written_header_len number
+pub room_is : (number : Option ℕ) (len : ℕ) → payload_room number len ≡ 32768 - len % 32768 - written_header_len number
 room_is number len = ap (λ b. b - len % b - written_header_len number) block_len-is
 
 -- the last fragment is written
@@ -87,16 +87,16 @@ pub IsWriting-last : (number : Option ℕ) (start whole out : List ℕ) (begins 
 IsWriting-last number start whole out begins rest h fits =
     h.same ∙ ap (λ bytes. out ++ bytes) (parts_bytes-last number h.n begins (length out) rest (omega (arith, room_is number (length out), fits)))
 
-enough_more : (begins : Bool) (n len later room : ℕ) → len ≤ cond begins (suc n) (suc n + 1) → (begins ≡ false → 1 ≤ room) → later ≡ len - room → later ≤ n + 1
+pub enough_more : (begins : Bool) (n len later room : ℕ) → len ≤ cond begins (suc n) (suc n + 1) → (begins ≡ false → 1 ≤ room) → later ≡ len - room → later ≤ n + 1
 enough_more true n len later room enough some is = omega arith
 enough_more false n len later room enough some is = omega (arith, some refl)
 
-enough_none : (begins : Bool) (len room : ℕ) → len ≤ cond begins 0 (0 + 1) → (begins ≡ false → 1 ≤ room) → room < len → ⊥
+pub enough_none : (begins : Bool) (len room : ℕ) → len ≤ cond begins 0 (0 + 1) → (begins ≡ false → 1 ≤ room) → room < len → ⊥
 enough_none true len room enough some more = omega arith
 enough_none false len room enough some more = omega (arith, some refl)
 
 -- where a fragment fills the block, the log ends with it
-fills : (len header room new : ℕ) → room ≡ 32768 - len % 32768 - header → header ≤ 32768 - len % 32768 → new ≡ len + (header + room) → new % 32768 ≡ 0
+pub fills : (len header room new : ℕ) → room ≡ 32768 - len % 32768 - header → header ≤ 32768 - len % 32768 → new ≡ len + (header + room) → new % 32768 ≡ 0
 fills len header room new room_is fits is = omega arith
 
 same_more : (number : Option ℕ) (whole out new : List ℕ) (begins : Bool) (rest later : List ℕ) (room n : ℕ)

@@ -1,5 +1,7 @@
 -- What contracts see of a log that is written.
-use Rattle.std.specs.Prelude.{◌≡◌, ℕ, List, ◌++◌, Option, Result, Ok, Err}
+use Rattle.std.specs.Prelude.{◌≡◌, ℕ, ◌%◌, ◌^◌, List, [], ◌∷◌, ◌++◌, Option, Some, None, Result, Ok, Err}
+use Rattle.rk_bytes.specs.declared.model.log.EndKind.TheVariants.{Clean}
+use Rattle.rk_bytes.specs.Model.LogItems.{Item, rec, end}
 use Rattle.rk_bytes.specs.declared.memory.Memory.{Memory}
 
 -- the log's number, if its headers hold it, and its bytes so far
@@ -11,3 +13,13 @@ pub record Writing : Type 0 where
 abbrev pub Extends : List ℕ → List ℕ → Result (Unit {0}) Memory → List ℕ → Type 0
 Extends old added (Ok done) new = new ≡ old ++ added
 Extends old added (Err memory) new = (more : List ℕ) × (new ≡ old ++ more)
+
+-- the reader's number has the low 32 bits of the log's, if its headers hold one
+abbrev pub SameLow : ℕ → Option ℕ → Type 0
+SameLow reader None = Unit {0}
+SameLow reader (Some number) = reader % 2 ^ 32 ≡ number % 2 ^ 32
+
+-- the items are records of these payloads, in order, and a clean end
+abbrev pub GivesBack : List (List ℕ) → List Item → Type 0
+GivesBack [] items = (place : ℕ) × (items ≡ end Clean place ∷ [])
+GivesBack (payload ∷ payloads) items = (place : ℕ) × (others : List Item) × (items ≡ rec payload place ∷ others) × GivesBack payloads others

@@ -216,9 +216,41 @@ fn a_feed_takes_one_block_after_the_other(rt: HostRuntime) -> Result<(), Fail> {
     append(&mut first, 0x4753_C53D, 1, None, &ZEROS[..32_755])?;
     first.resize(BLOCK_LEN, 0)?;
     let mut feed = LogFeed::new(rt.alloc(), 9);
-    let FeedItem::Item(item) = feed.next(first.as_slice(), false)? else {
-        return Err(Fail::new("no item"));
-    };
-    assert_eq!(rt; seen(&item), Told::Rec(32_755, 0));
+    let item = feed.next(first.as_slice(), false)?;
+    assert_eq!(rt; fed(&item), Some(Told::Rec(32_755, 0)));
+    let more = feed.next(first.as_slice(), false)?;
+    assert_eq!(rt; fed(&more), None);
+    let item = feed.next(&B, true)?;
+    assert_eq!(rt; fed(&item), Some(Told::Rec(1, 32_768)));
+    let end = feed.next(&B, true)?;
+    assert_eq!(rt; fed(&end), Some(Told::End(EndKind::Clean, 32_776)));
     Ok(())
+}
+
+fn fed(item: &FeedItem<'_>) -> Option<Told> {
+    match item {
+        FeedItem::Item(item) => Some(seen(item)),
+        FeedItem::More => None,
+    }
+}
+
+#[test]
+fn written_logs_are_cut_where_blocks_end(rt: HostRuntime) -> Result<(), Fail> {
+    // with legacy headers: 6 bytes of padding, and an empty first part of a record
+    let cases: [(&[u8], u64); 2] = [(&ZEROS[..32_755], 32_768), (&ZEROS[..32_754], 32_761)];
+    for (payload, place) in cases {
+        let mut writer = LogWriter::new(rt.alloc(), None);
+        writer.add(payload)?;
+        writer.add(&[0])?;
+        let log = writer.finish();
+        let items = [Told::Rec(payload.len(), 0), Told::Rec(1, place)];
+        assert_items(&rt, log.as_slice(), &items, EndKind::Clean, 32_776)?;
+    }
+    // with recyclable ones, and 10 bytes of padding
+    let mut writer = LogWriter::new(rt.alloc(), Some((1 << 32) + 9));
+    writer.add(&ZEROS[..32_747])?;
+    writer.add(&[0])?;
+    let log = writer.finish();
+    let items = [Told::Rec(32_747, 0), Told::Rec(1, BLOCK_LEN as u64)];
+    assert_items(&rt, log.as_slice(), &items, EndKind::Clean, 32_780)
 }

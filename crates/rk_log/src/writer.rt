@@ -1,7 +1,8 @@
-ghost use Rattle.std.specs.Prelude.{◌≡◌, ◌≤◌, ◌-◌, ◌%◌, ◌<◌, [], ◌++◌, true, length, OnOk, OnErr};
+ghost use Rattle.std.specs.Prelude.{◌≡◌, ◌≤◌, ◌-◌, ◌%◌, ◌<◌, ℕ, List, [], ◌∷◌, ◌++◌, true, length, OnOk, OnErr};
 ghost use Rattle.rk_bytes.specs.Model.LogMarks.{block_len};
-ghost use Rattle.rk_bytes.specs.Model.WrittenLogs.{written_header_len, part_type, parts_bytes, padding, record_bytes};
-ghost use Rattle.rk_log.specs.Writing.{Extends};
+ghost use Rattle.rk_bytes.specs.Model.LogItems.{log_items};
+ghost use Rattle.rk_bytes.specs.Model.WrittenLogs.{written_header_len, part_type, parts_bytes, padding, record_bytes, written_log};
+ghost use Rattle.rk_log.specs.Writing.{Extends, SameLow, GivesBack};
 
 use crate::block::BLOCK_LEN;
 use crate::header::{HEADER_LEN, NUMBERED_HEADER_LEN};
@@ -32,7 +33,8 @@ impl LogWriter {
     /// An empty log: with recyclable headers, which hold the number's low 32 bits, or with legacy ones.
     /// Takes no memory yet.
     pub fn new(alloc: Global, number: Option<u64>) -> LogWriter
-        ensures { result ≡ record { number = number; bytes = [] } }
+        ensures value { result ≡ record { number = number; bytes = [] } }
+        ensures log { result.bytes ≡ written_log number [] }
     {
         LogWriter {
             number,
@@ -43,6 +45,7 @@ impl LogWriter {
     /// Puts a record at the end, or where memory runs out changes nothing.
     pub fn add(&mut self, payload: &[u8]) -> Result<(), Memory>
         ensures ok { OnOk result (self.new ≡ record self.old { bytes = self.old.bytes ++ record_bytes self.old.number (length self.old.bytes) payload.now }) }
+        ensures log { OnOk result ((payloads : List (List ℕ)) → self.old.bytes ≡ written_log self.old.number payloads → self.new.bytes ≡ written_log self.old.number (payloads ++ payload.now ∷ [])) }
         ensures err { OnErr result (self.new ≡ self.old) }
     {
         let len = self.out.len();
@@ -55,7 +58,8 @@ impl LogWriter {
 
     /// The log's bytes. Takes no memory.
     pub fn finish(self) -> Bytes
-        ensures { result ≡ self.bytes }
+        ensures bytes { result ≡ self.bytes }
+        ensures reads { (reader : ℕ) (payloads : List (List ℕ)) → SameLow reader self.number → self.bytes ≡ written_log self.number payloads → GivesBack payloads (log_items reader result) }
     {
         let LogWriter { number: _, out } = self;
         Bytes::from_vec(out)

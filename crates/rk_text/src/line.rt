@@ -6,8 +6,8 @@ use rk_bytes::{Bytes, Memory};
 use std::alloc::Global;
 use std::marker::Model;
 
-/// A line that is being made. Contracts see its bytes. What stands in it after a call that lacks memory
-/// is a part of a line, which the next `clear` takes away.
+/// A buffer that serves for all lines, one after the other, and keeps its memory. Contracts see its
+/// bytes. A call that lacks memory may leave a part of its line, which the next call replaces.
 #[derive(Debug, Drop)]
 pub struct Line {
     pub(crate) bytes: Vec<u8>,

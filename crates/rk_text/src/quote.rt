@@ -80,11 +80,12 @@ impl Line {
     }
 
     /// Puts a byte that doesn't stand for itself at the end.
+    #[tactic(auto, unfolding(hex::specs::Hex::encode_with))]
     fn put_escaped(&mut self, byte: u8) -> Result<(), Memory>
         ensures { OnOk result (self.new ≡ self.old ++ (codes "\\x" ++ encode_lower (byte ∷ []))) }
     {
-        self.put(b"\\x")?;
-        self.put(&digits(byte))
+        let (high, low) = (byte / 16, byte % 16);
+        self.put(&[b'\\', b'x', DIGITS[high as usize], DIGITS[low as usize]])
     }
 }
 
@@ -127,14 +128,6 @@ fn stands_for_itself(byte: u8) -> bool
     ensures { result ≡ stands_for_itself byte }
 {
     matches!(byte, b' '..=b'~') && byte != b'"' && byte != b'\\'
-}
-
-/// The two digits of a byte.
-#[tactic(auto, unfolding(hex::specs::Hex::encode_with))]
-fn digits(byte: u8) -> [u8; 2]
-    ensures { result ≡ encode_lower (byte ∷ []) }
-{
-    [DIGITS[(byte / 16) as usize], DIGITS[(byte % 16) as usize]]
 }
 
 /// The digits by their values.

@@ -1,7 +1,8 @@
 ghost use Rattle.std.specs.Prelude.{◌≤◌, IfOk, length};
 
 use super::*;
-use std::alloc::AllocError;
+use std::alloc::{AllocError, Allocator};
+use std::fs::OpenOptions;
 use std::rt::Env;
 use std::test::Fail;
 use std::{env, process};
@@ -113,6 +114,10 @@ fn the_system_is_reached(rt: HostRuntime) -> Result<(), Fail> {
         ("000004.log", 0, None, ""),
         ("other", 0, None, ""),
         ("other/000001.log", 0, None, ""),
+        // On from where the last read of it ended, and back.
+        ("000003.log", 0, Some(10), "0123"),
+        ("000003.log", 4, Some(10), "4567"),
+        ("000003.log", 1, Some(10), "1234"),
     ] {
         let (length, n) = look(&mut disk, name, at, &mut buf)?;
         assert_eq!(rt; length, size, "{name}");
@@ -123,12 +128,111 @@ fn the_system_is_reached(rt: HostRuntime) -> Result<(), Fail> {
 }
 
 #[test]
-fn failures_are_counted(rt: HostRuntime) -> Result<(), Fail> {
+fn an_absent_folder_fails(rt: HostRuntime) -> Result<(), Fail> {
     let mut disk = FolderDisk::new(&rt, rt.alloc(), "/absent/folder")?;
-    assert_eq!(rt; look(&mut disk, "000003.log", 0, &mut [])?, (None, 0));
-    assert!(rt; names_of(&mut disk, rt.alloc()).is_err());
-    assert_eq!(rt; disk.size("no\0name"), Err(DiskErr::Failed));
-    assert_eq!(rt; disk.read("no\0name", 0, &mut []), Err(DiskErr::Failed));
-    assert_eq!(rt; disk.failures, 3);
+    for (i, name) in ["000003.log", "other/000001.log", "no\0name"]
+        .iter()
+        .enumerate()
+    {
+        assert_eq!(rt; disk.size(name), Err(DiskErr::Failed), "{name}");
+        assert_eq!(rt; disk.read(name, 0, &mut []), Err(DiskErr::Failed), "{name}");
+        assert_eq!(rt; disk.failures, 2 * i as u64 + 2);
+    }
+    assert_eq!(rt;
+        names_of(&mut disk, rt.alloc()).err(),
+        Some(DiskErr::Failed)
+    );
+    Ok(())
+}
+
+// A system in which each folder has one name, and each path leads to a folder.
+#[derive(Drop)]
+struct OneName<'a, R> {
+    rt: &'a R,
+    text: bool,
+}
+
+// The bytes of the name and a NUL, of which one read gives all.
+#[derive(Drop)]
+struct Names {
+    name: &'static [u8],
+}
+
+impl Read for Names {
+    fn read(&mut self, buf: &mut [u8]) -> io::Result<usize> {
+        let n = self.name.len().min(buf.len());
+        buf[..n].copy_from_slice(&self.name[..n]);
+        self.name = &self.name[n..];
+        Ok(n)
+    }
+}
+
+impl<'a, R: Files> Files for OneName<'a, R> {
+    type File = R::File;
+
+    type Dir = Names;
+
+    fn open_file(&self, how: &OpenOptions, path: &str) -> io::Result<R::File> {
+        self.rt.open_file(how, path)
+    }
+
+    fn open_dir(&self, _path: &str) -> io::Result<Names> {
+        Ok(Names {
+            name: if self.text { b"f\0" } else { b"\xFF\0" },
+        })
+    }
+
+    fn metadata(&self, _path: &str) -> io::Result<Metadata> {
+        self.rt.metadata(".")
+    }
+
+    fn symlink_metadata(&self, _path: &str) -> io::Result<Metadata> {
+        self.rt.metadata(".")
+    }
+
+    fn copy(&self, from: &str, to: &str) -> io::Result<u64> {
+        self.rt.copy(from, to)
+    }
+
+    fn rename(&self, from: &str, to: &str) -> io::Result<()> {
+        self.rt.rename(from, to)
+    }
+
+    fn remove_file(&self, path: &str) -> io::Result<()> {
+        self.rt.remove_file(path)
+    }
+
+    fn create_dir(&self, path: &str) -> io::Result<()> {
+        self.rt.create_dir(path)
+    }
+
+    fn remove_dir(&self, path: &str) -> io::Result<()> {
+        self.rt.remove_dir(path)
+    }
+
+    fn remove_dir_all<B: Allocator>(&self, alloc: B, path: &str) -> io::Result<()> {
+        self.rt.remove_dir_all(alloc, path)
+    }
+}
+
+// Why the names of a folder of the system aren't given.
+fn names_fail<R: Files>(system: &R, alloc: Global) -> Result<Option<DiskErr>, Memory> {
+    let mut disk = FolderDisk::new(system, alloc, "folder")?;
+    Ok(names_of(&mut disk, alloc).err())
+}
+
+#[test]
+fn a_name_that_is_no_text_fails(rt: HostRuntime) -> Result<(), Fail> {
+    let alloc = rt.alloc();
+    let system = OneName {
+        rt: &rt,
+        text: false,
+    };
+    assert_eq!(rt; names_fail(&system, alloc)?, Some(DiskErr::Failed));
+    let system = OneName {
+        rt: &rt,
+        text: true,
+    };
+    assert_eq!(rt; names_fail(&system, alloc)?, None);
     Ok(())
 }

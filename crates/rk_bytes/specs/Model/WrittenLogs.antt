@@ -19,7 +19,8 @@ abbrev pub number_bytes : Option ℕ → List ℕ
 number_bytes None = []
 number_bytes (Some number) = fixed_of 4 number
 
--- a fragment: the masked sum and the payload's length, and then what the sum covers, the type, the number and the payload
+-- a fragment: the masked sum and the payload's length, and then what the sum covers, the type, the number and
+-- the payload
 unfoldable pub fragment_bytes : Option ℕ → ℕ → List ℕ → List ℕ
 fragment_bytes number kind payload =
     let summed = written_type number kind ∷ (number_bytes number ++ payload) in

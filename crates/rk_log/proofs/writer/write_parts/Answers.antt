@@ -1,5 +1,5 @@
-use Rattle.std.proofs.Common.{◌≡◌, ◌++◌, ◌-◌, ◌%◌, true, false, length, take, sym, ap, ◌∙◌, arith}
-use Rattle.rk_bytes.specs.Model.WrittenLogs.{fragment_bytes, written_header_len}
+use Rattle.std.proofs.Common.{◌≡◌, ◌++◌, ◌-◌, ◌%◌, length, sym, ap, ◌∙◌, arith}
+use Rattle.rk_bytes.specs.Model.WrittenLogs.{fragment_bytes}
 use Rattle.rk_log.proofs.WriteLemmas.{IsWriting-start, IsWriting-last, IsWriting-more, Extends-on}
 use Rattle.rk_log.proofs.writer.write_parts.Goals as goal
 

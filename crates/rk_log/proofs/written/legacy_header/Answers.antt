@@ -1,4 +1,4 @@
-use Rattle.std.proofs.Common.{◌∷◌, [], length, None, refl, ap, ◌∙◌, get_or, ◌++◌}
+use Rattle.std.proofs.Common.{◌∷◌, [], length, None, ap, ◌∙◌, get_or, ◌++◌}
 use Rattle.rk_bytes.specs.Model.Numbers.{fixed_of}
 use Rattle.rk_log.proofs.WriteLemmas.{four_bytes, two_bytes, fragment_parts}
 use Rattle.rk_log.proofs.written.legacy_header.Goals as goal

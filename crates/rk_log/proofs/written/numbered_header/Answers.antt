@@ -1,4 +1,4 @@
-use Rattle.std.proofs.Common.{◌≡◌, ℕ, List, ◌+◌, ◌∷◌, [], length, Some, refl, sym, ap, ◌∙◌, get_or, ◌++◌}
+use Rattle.std.proofs.Common.{◌≡◌, ℕ, List, ◌+◌, ◌∷◌, length, Some, ap, ◌∙◌, get_or, ◌++◌}
 use Rattle.rk_bytes.specs.Model.Checksums.{crc32c}
 use Rattle.rk_bytes.specs.Model.Numbers.{fixed_of}
 use Rattle.rk_log.proofs.WriteLemmas.{four_bytes, two_bytes, fragment_parts}

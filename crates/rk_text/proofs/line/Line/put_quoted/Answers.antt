@@ -1,7 +1,3 @@
-use Rattle.std.proofs.Common.{◌++◌, ◌∷◌, [], true, false, sym, ap, ◌∙◌, append_assoc}
-use Rattle.std.specs.Prelude.{codes, flat_map}
-use Rattle.hex.specs.Hex.{encode_lower}
-use Rattle.rk_bytes.specs.Model.Lines.{quoted, shown_byte}
 use Rattle.rk_text.proofs.QuoteLemmas.{quoted_hex, quoted_shown}
 use Rattle.std.proofs.lemmas.Result.{on_ok_weaker}
 use Rattle.rk_text.proofs.line.Line.put_quoted.Goals as goal
