@@ -1,5 +1,5 @@
 -- The levels, bounds and files of an edit are read just where they are spelled.
-use Rattle.std.proofs.Common.{◌≡◌, ℕ, zero, suc, ◌/◌, ◌%◌, ◌≤◌, Bool, true, false, not, ◌&&◌, cond, List, [], ◌∷◌, ◌++◌, length, Option, Some, None, Ok, Err, refl, sym, ◌∙◌, ap, subst, arith, append_assoc, inl, inr}
+use Rattle.std.proofs.Common.{◌≡◌, ℕ, zero, suc, ◌/◌, ◌%◌, ◌≤◌, Bool, true, false, not, ◌&&◌, cond, List, [], ◌∷◌, ◌++◌, length, Option, Some, None, Ok, Err, refl, sym, ◌∙◌, ap, subst, arith, inl, inr}
 use Rattle.std.specs.Prelude.{◌==◌, nat_le}
 use Rattle.std.proofs.lemmas.Bool.{eqb-true, eqb-false, ne_eqb, leb-true, le-leb, not-false, cond-false}
 use Rattle.std.proofs.lemmas.List.{length-append}
@@ -9,7 +9,7 @@ use Rattle.rk_bytes.specs.declared.model.edit.EditFault.TheVariants.{UnknownTag,
 use Rattle.rk_bytes.specs.Model.Numbers.{AreBytes, ◌>>=◌, IsVarint32, IsVarint64, IsPrefixed, varint32_at, varint64_at, prefixed_at, reads_or}
 use Rattle.rk_bytes.specs.Model.InternalKey.{top_sequence}
 use Rattle.rk_laws.proofs.ReadingLemmas.{both_steps, first_step, passed, varint_len, varint32-append, prefixed-append}
-use Rattle.rk_laws.proofs.Readers.{Front, Exact, exact_varint32, exact_varint64, exact_prefixed, reads_or_ok, exact_or, exact_as, Both, exact_then, Made, exact_made, exact_tested}
+use Rattle.rk_laws.proofs.Readers.{Front, Exact, exact_varint32, exact_varint64, exact_prefixed, reads_or_ok, exact_or, exact_as, Both, exact_then, Made, exact_made, exact_tested, regroup}
 use Rattle.rk_bytes.specs.Model.VersionEdit.{NewFile, Field, compact_cursor, delete_file, add_file, level_at, bound_at, sequence_at, cursor_at, deleted_at, file_with, file_at, with_sequences, sequenced_file_at, after_path, after_custom, after_customs, custom_file_at, SpellsLevel, SpellsBound, SpellsFile, SpellsSequencedFile, MayPass, SpellsCustoms, no_custom, one_custom}
 
 pub exact_level : Exact level_at SpellsLevel
@@ -238,9 +238,6 @@ record CustomsOf (bytes rest : List ℕ) : Type 0 where
   whole : bytes ≡ part ++ rest
   spells : SpellsCustoms part
   after : AreBytes rest
-
-regroup : (a b c rest : List ℕ) → (a ++ (b ++ c)) ++ rest ≡ a ++ (b ++ (c ++ rest))
-regroup a b c rest = simp append_assoc
 
 after_customs_ok : (n place : ℕ) (bytes rest : List ℕ) → AreBytes bytes → after_customs n place bytes ≡ Ok rest → CustomsOf bytes rest
 unfolding after_customs

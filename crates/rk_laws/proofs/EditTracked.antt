@@ -1,5 +1,5 @@
 -- The tracked logs of an edit are read just where they are spelled.
-use Rattle.std.proofs.Common.{◌≡◌, ℕ, zero, suc, ◌≤◌, Bool, true, false, not, cond, List, [], ◌∷◌, ◌++◌, length, Ok, Err, refl, sym, ◌∙◌, ap, subst, arith, append_assoc}
+use Rattle.std.proofs.Common.{◌≡◌, ℕ, zero, suc, ◌≤◌, Bool, true, false, not, cond, List, [], ◌∷◌, ◌++◌, length, Ok, Err, refl, sym, ◌∙◌, ap, subst, arith}
 use Rattle.std.specs.Prelude.{◌==◌}
 use Rattle.std.proofs.lemmas.Bool.{eqb-true, not-false}
 use Rattle.std.proofs.lemmas.List.{length-append}
@@ -8,7 +8,7 @@ use Rattle.rk_bytes.specs.declared.model.manifest.Tracked.{Tracked}
 use Rattle.rk_bytes.specs.Model.Numbers.{AreBytes, Read, ◌>>=◌, IsVarint32, IsVarint64, IsPrefixed, varint32_at, varint64_at, prefixed_at}
 use Rattle.rk_bytes.specs.Model.VersionEdit.{in_slice, synced_sizes_at, tracked_with, tracked_at, SpellsInSlice, SpellsSyncedSizes, no_size, one_size, SpellsTracked}
 use Rattle.rk_laws.proofs.ReadingLemmas.{both_steps, first_step, passed, varint_len, varint32-append, varint64-append, prefixed-append, rest_of_bytes, bytes_before}
-use Rattle.rk_laws.proofs.Readers.{Front, Exact, exact_varint32, exact_varint64, exact_prefixed, exact_as, Both, exact_then, Made, exact_made}
+use Rattle.rk_laws.proofs.Readers.{Front, Exact, exact_varint32, exact_varint64, exact_prefixed, exact_as, Both, exact_then, Made, exact_made, regroup}
 
 -- the bytes of a slice
 slice_bytes : (bytes slice rest part : List ℕ) → AreBytes bytes → bytes ≡ part ++ rest → IsPrefixed part slice → AreBytes slice
@@ -34,9 +34,6 @@ exact_in_slice {A} read S x = record {
       first_step (prefixed_at (part ++ rest)) _ (s.slice, rest) (prefixed-append part rest s.slice s.whole)
       ∙ first_step (read s.slice) _ (a, s.passed) (ap read s.spelled ∙ x.spelled s.front s.passed a s.value);
 }
-
-regroup : (a b c rest : List ℕ) → (a ++ (b ++ c)) ++ rest ≡ a ++ (b ++ (c ++ rest))
-regroup a b c rest = simp append_assoc
 
 -- the sizes that are read are spelled
 sizes_read : (n : ℕ) (bytes : List ℕ) (r : List ℕ × List ℕ) → AreBytes bytes → synced_sizes_at n bytes ≡ Ok r → Front SpellsSyncedSizes bytes r

@@ -166,3 +166,7 @@ exact_unless b fault read S x = record {
       record { part = f.part; whole = f.whole; spells = (f.spells, apart); after = f.after };
   spelled = λ part rest a s. cond-false b _ _ s.1 ∙ x.spelled part rest a s.0;
 }
+
+-- three parts in a row before others
+pub regroup : (a b c rest : List ℕ) → (a ++ (b ++ c)) ++ rest ≡ a ++ (b ++ (c ++ rest))
+regroup a b c rest = simp append_assoc

@@ -1,6 +1,6 @@
 -- The lines that name a fault.
-use Rattle.std.proofs.Common.{◌≡◌, ◌⊎◌, ℕ, ◌≤◌, Bool, true, false, List, [], ◌++◌, length, take, Option, Some, None, Result, Ok, Err, refl, sym, ap, ◌∙◌, subst, inl, inr, arith, take_all}
-use Rattle.std.specs.Prelude.{option_map, IfSome, OnOk, IsErrOf}
+use Rattle.std.proofs.Common.{◌≡◌, ◌⊎◌, ℕ, ◌≤◌, Bool, true, false, List, [], ◌++◌, length, take, Option, Result, Ok, Err, refl, sym, ap, ◌∙◌, subst, inl, inr, arith, take_all}
+use Rattle.std.specs.Prelude.{option_map, OnOk, IsErrOf}
 use Rattle.std.proofs.lemmas.List.{append-nil}
 use Rattle.rk_bytes.specs.declared.model.status.Status.{Status}
 use Rattle.rk_bytes.specs.Model.DiskImages.{Rose, Counts}
@@ -61,11 +61,6 @@ TookPart-tried before between after line n m k (Err sink.Failed) ok failed memor
     subst (λ taken. TookPart before taken line (λ len. (len ≡ 0) ⊎ Rose n k)) (sym same)
     (TookPart-cut before between line (λ len. (len ≡ 0) ⊎ Rose n k) (failed refl) (λ len. inr (Rose-later n m k counts.1 more)))
 TookPart-tried before between after line n m k (Err sink.Memory) ok failed memory counts same more = TookPart-none before after line (λ len. (len ≡ 0) ⊎ Rose n k) (same ∙ memory refl) (inl refl)
-
--- what holds of a value, if there is one, together with a fact
-pub IfSome-with : {T : Type 0} (o : Option T) (P Q : T → Type 0) → ((x : T) → P x → Q x) → IfSome o P → IfSome o Q
-IfSome-with None P Q f h = tt
-IfSome-with (Some x) P Q f h = f x h
 
 -- all lines were taken, and then nothing more
 pub EndsInFault-whole : (before after : Option (List ℕ)) (lines : List (List ℕ)) (line : List ℕ) (why : Type 0) → Took before after (joined lines) → EndsInFault before after lines line (λ len. (len ≡ 0) ⊎ why)

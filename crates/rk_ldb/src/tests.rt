@@ -127,14 +127,14 @@ fn a_log_is_dumped(rt: HostRuntime) -> Result<(), Fail> {
     let done = Status::Done;
     let empty = b"".as_slice();
     let records = TWO_RECORDS.as_slice();
-    let recyclable = b"\0\0\0\0\0\0\x05".as_slice();
+    let compressed = b"\0\0\0\0\0\0\x09".as_slice();
     expect_dump(&rt, Some(("000003.log", empty)), "3", "end 0 Clean\n", done)?;
     expect_dump(&rt, Some(("000003.log", records)), "3", WHOLE, done)?;
     expect_dump(
         &rt,
-        Some(("000003.log", recyclable)),
+        Some(("000003.log", compressed)),
         "3",
-        "end 0 Unsupported 5\n",
+        "end 0 Unsupported 9\n",
         done,
     )?;
     expect_dump(&rt, Some(("000000.log", empty)), "0", "end 0 Clean\n", done)?;
