@@ -127,7 +127,7 @@ fn a_log_is_dumped(rt: HostRuntime) -> Result<(), Fail> {
     let done = Status::Done;
     let empty = b"".as_slice();
     let records = TWO_RECORDS.as_slice();
-    let compressed = b"\0\0\0\0\0\0\x09".as_slice();
+    let compressed = b"\x77\x40\xbd\xb3\x00\x00\x09".as_slice();
     expect_dump(&rt, Some(("000003.log", empty)), "3", "end 0 Clean\n", done)?;
     expect_dump(&rt, Some(("000003.log", records)), "3", WHOLE, done)?;
     expect_dump(
