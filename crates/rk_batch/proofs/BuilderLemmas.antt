@@ -11,7 +11,7 @@ use Rattle.rk_bytes.specs.Model.Writers.{change_bytes, batch_bytes}
 use Rattle.rk_batch.specs.Seen.{parts_left, parts_or_none, counted}
 use Rattle.rk_batch.specs.Building.{SuitsKind, AreWritable, IsBuilt, parts_from, record_of, next_record, records_in, with_header}
 use Rattle.rk_batch.proofs.ReadLemmas.{good_batch}
-use Rattle.rk_batch.proofs.WrittenNumbers.{little_endian-fixed_of}
+use Rattle.rk_bytes.proofs.Callers.FixedNumbers.{little_endian-fixed_of}
 use Rattle.rk_batch.proofs.WrittenParts.{changes-parts_from, parts-written}
 
 -- a batch with a count in its header

@@ -4,5 +4,4 @@ mod PartLemmas
 mod ReadLemmas
 mod Shorter
 mod ViewLemmas
-mod WrittenNumbers
 mod WrittenParts

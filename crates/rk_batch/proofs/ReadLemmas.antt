@@ -9,7 +9,7 @@ use Rattle.rk_bytes.specs.Model.Numbers.{◌>>=◌}
 use Rattle.rk_bytes.specs.Model.InternalKey.{top_sequence}
 use Rattle.rk_bytes.specs.Model.WriteBatch.{Part, Batch, change_count, batch_part_at, batch_sequence, stated_count, parts_after_header, passes_top, batch_with, part_of_tag, batch_of}
 use Rattle.rk_bytes.specs.Reading.{Reading, IsFurther, rest_of}
-use Rattle.rk_bytes.proofs.InTurn.{in_turn-room}
+use Rattle.rk_bytes.proofs.Callers.InTurn.{in_turn-room}
 use Rattle.rk_batch.specs.Seen.{parts_left, parts_or_none, batch_or_none, counted}
 use Rattle.rk_batch.specs.Read.{IsRead, ReadAs}
 use Rattle.rk_batch.proofs.Shorter.{batch_shortens}

@@ -8,7 +8,7 @@ use Rattle.rk_bytes.specs.declared.model.key.Kind.{Kind}
 use Rattle.rk_bytes.specs.declared.model.key.Kind.TheVariants.{Deletion, Value, Merge, SingleDeletion, RangeDeletion}
 use Rattle.rk_bytes.specs.Model.Numbers.{Read, ◌>>=◌, groups_value, high_count, part_of, varint_at, varint32_at, prefixed_at, reads_or}
 use Rattle.rk_bytes.specs.Model.WriteBatch.{Part, noop, kind_of_tag, names_family, family_at, value_at, change_at, log_bytes_at, part_of_tag, change_count, batch_part_at}
-use Rattle.rk_bytes.proofs.InTurn.{Shortens}
+use Rattle.rk_bytes.proofs.Callers.InTurn.{Shortens}
 
 -- what is read leaves at most so many bytes
 pub record Leaves {A F : Type 0} (most : ℕ) (read : Result (A × List ℕ) F) : Type 0 where

@@ -4,7 +4,7 @@ use Rattle.std.proofs.Common.{◌≡◌, ℕ, zero, suc, ◌+◌, ◌-◌, ◌<�
 use Rattle.rk_bytes.specs.declared.model.batch.BatchFault.{BatchFault}
 use Rattle.rk_bytes.specs.Model.Numbers.{◌>>=◌, in_turn}
 use Rattle.rk_bytes.specs.Model.WriteBatch.{Part, change, log_bytes, noop, change_count, part_of_tag, batch_part_at}
-use Rattle.rk_bytes.proofs.InTurn.{in_turn-room}
+use Rattle.rk_bytes.proofs.Callers.InTurn.{in_turn-room}
 use Rattle.rk_batch.specs.Seen.{parts_left}
 use Rattle.rk_batch.proofs.Shorter.{batch_shortens, part_shorter}
 

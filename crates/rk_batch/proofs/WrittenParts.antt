@@ -12,7 +12,9 @@ use Rattle.rk_bytes.specs.Model.Writers.{family_bytes, value_bytes, change_bytes
 use Rattle.rk_batch.specs.Seen.{parts_left}
 use Rattle.rk_batch.specs.Building.{SuitsKind, AreWritable, parts_from}
 use Rattle.rk_batch.proofs.ViewLemmas.{parts_left-nothing, parts_left-more}
-use Rattle.rk_batch.proofs.WrittenNumbers.{first_step, varint32-written, prefixed-written}
+use Rattle.rk_bytes.proofs.Callers.Readings.{first_step}
+use Rattle.rk_bytes.proofs.Callers.Tags.{plain_change, named_change}
+use Rattle.rk_bytes.proofs.Callers.Varints.{varint32-written, prefixed-written}
 
 plain_family : (kind : Kind) (bytes : List ℕ) → family_at (plain_tag kind) bytes ≡ Ok (0, bytes)
 plain_family Deletion bytes = refl
@@ -27,20 +29,6 @@ named_family Value bytes = refl
 named_family Merge bytes = refl
 named_family SingleDeletion bytes = refl
 named_family RangeDeletion bytes = refl
-
-plain_change : (place sequence : ℕ) (kind : Kind) (bytes : List ℕ) → part_of_tag place sequence (plain_tag kind) bytes ≡ reads_or (BadRecord place) (change_at place sequence (plain_tag kind) kind bytes)
-plain_change place sequence Deletion bytes = refl
-plain_change place sequence Value bytes = refl
-plain_change place sequence Merge bytes = refl
-plain_change place sequence SingleDeletion bytes = refl
-plain_change place sequence RangeDeletion bytes = refl
-
-named_change : (place sequence : ℕ) (kind : Kind) (bytes : List ℕ) → part_of_tag place sequence (family_tag kind) bytes ≡ reads_or (BadRecord place) (change_at place sequence (family_tag kind) kind bytes)
-named_change place sequence Deletion bytes = refl
-named_change place sequence Value bytes = refl
-named_change place sequence Merge bytes = refl
-named_change place sequence SingleDeletion bytes = refl
-named_change place sequence RangeDeletion bytes = refl
 
 -- a tag, the family's bytes after it, and what is read of both
 record Tagged (place sequence : ℕ) (kind : Kind) (family : ℕ) (bytes : List ℕ) : Type 0 where

@@ -1,4 +1,4 @@
-ghost use Rattle.std.specs.Prelude.{◌≡◌, ◌+◌, ◌-◌, ◌^◌, ◌<◌, ◌≤◌, ℕ, List, ◌∷◌, [], ◌++◌, length, take, Ok, IfOk, OnOk, OnErr};
+ghost use Rattle.std.specs.Prelude.{◌≡◌, ◌+◌, ◌-◌, ◌^◌, ◌<◌, ◌≤◌, ℕ, List, ◌∷◌, [], ◌++◌, length, Ok, IfOk, OnOk, OnErr};
 ghost use Rattle.rk_bytes.specs.Model.InternalKey.{top_sequence};
 ghost use Rattle.rk_bytes.specs.Model.WriteBatch.{plain_tag, family_tag, batch_of};
 ghost use Rattle.rk_bytes.specs.Model.Writers.{family_bytes, value_bytes, change_bytes, batch_bytes};
@@ -8,12 +8,10 @@ use crate::Kind;
 use rk_bytes::{Bytes, Memory, put_fixed32, put_fixed64, put_prefixed, put_varint32};
 use std::alloc::Global;
 use std::marker::Model;
-use std::mem;
 
 /// Builds a write batch. Contracts see its sequence number and its records so far.
 #[derive(Debug, Drop)]
 pub struct BatchBuilder {
-    alloc: Global,
     sequence: u64,
     count: u32,
     /// The batch so far, whose header states no change yet.
@@ -40,7 +38,6 @@ impl BatchBuilder {
         put_fixed64(&mut out, sequence)?;
         put_fixed32(&mut out, 0)?;
         Ok(BatchBuilder {
-            alloc,
             sequence,
             count: 0,
             out,
@@ -65,7 +62,7 @@ impl BatchBuilder {
                 Ok(())
             }
             Err(memory) => {
-                truncate(&mut self.out, len, self.alloc);
+                self.out.truncate(len);
                 Err(memory)
             }
         }
@@ -77,7 +74,6 @@ impl BatchBuilder {
         ensures reads { self.sequence ≤ top_sequence → batch_of result ≡ Ok (record { sequence = self.sequence; parts = parts_from 12 self.records }) }
     {
         let BatchBuilder {
-            alloc: _,
             sequence: _,
             count,
             out,
@@ -98,16 +94,6 @@ fn with_count(batch: Bytes, count: u32) -> Bytes
     bytes[10] = third;
     bytes[11] = fourth;
     Bytes::from_vec(bytes)
-}
-
-/// Takes away all bytes but the first ones. Takes no memory.
-fn truncate(bytes: &mut Bytes, len: usize, alloc: Global)
-    requires { len ≤ length bytes.old }
-    ensures { bytes.new ≡ take len bytes.old }
-{
-    let mut items = mem::replace(bytes, Bytes::new(alloc)).into_vec();
-    items.truncate(len);
-    *bytes = Bytes::from_vec(items);
 }
 
 /// The tag of a change in the default family.

@@ -1,6 +1,3 @@
--- Lemmas that the proofs of callers cite.
-pub mod CommandLemmas
-pub mod DiskLemmas
-pub mod InTurn
+pub mod Callers
 mod VarintLemmas
 mod VarintWriting

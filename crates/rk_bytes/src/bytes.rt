@@ -1,4 +1,4 @@
-ghost use Rattle.std.specs.Prelude.{◌≡◌, [], ◌++◌, IfOk, OnOk, OnErr};
+ghost use Rattle.std.specs.Prelude.{◌≡◌, [], ◌++◌, take, IfOk, OnOk, OnErr};
 
 use crate::Memory;
 use std::alloc::Global;
@@ -83,5 +83,12 @@ impl Bytes {
                 Err(Memory::from(error))
             }
         }
+    }
+    /// Takes away all bytes behind the first ones. Where there are no more than these, it changes
+    /// nothing. Takes no memory.
+    pub fn truncate(&mut self, len: usize)
+        ensures { self.new ≡ take len self.old }
+    {
+        self.items.truncate(len);
     }
 }

@@ -8,7 +8,7 @@ use Rattle.rk_bytes.specs.declared.model.batch.BatchFault.{BatchFault}
 use Rattle.rk_bytes.specs.Model.Numbers.{AreBytes, little_endian, in_turn}
 use Rattle.rk_bytes.specs.Model.InternalKey.{top_sequence}
 use Rattle.rk_bytes.specs.Model.WriteBatch.{Part, change, log_bytes, noop, change_count, part_of_tag, batch_part_at, batch_sequence, stated_count, parts_after_header, passes_top, Batch, batch_of, SpellsParts, IsBatch}
-use Rattle.rk_laws.proofs.ReadingLemmas.{both_steps, first_step, passed, bytes_after}
+use Rattle.rk_bytes.proofs.Callers.Readings.{both_steps, first_step, passed, bytes_after}
 use Rattle.rk_laws.proofs.BatchLemmas.{some_bytes, exact_part_at}
 
 change_count-more : (part : Part) (parts : List Part) → change_count (part ∷ parts) ≡ change_count parts + change_count (part ∷ [])

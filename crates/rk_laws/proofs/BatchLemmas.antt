@@ -10,7 +10,8 @@ use Rattle.rk_bytes.specs.declared.model.batch.BatchFault.TheVariants.{BadRecord
 use Rattle.rk_bytes.specs.Model.Numbers.{AreBytes, Read, IsPrefixed, IsVarint32, varint32_at, prefixed_at, reads_or}
 use Rattle.rk_bytes.specs.Model.InternalKey.{all_kinds}
 use Rattle.rk_bytes.specs.Model.WriteBatch.{Part, change, log_bytes, noop, plain_tag, family_tag, kind_of_tag, names_family, is_unsupported_batch_tag, family_at, value_at, change_at, log_bytes_at, part_of_tag, SpellsFamily, SpellsChangeValue, SpellsChange, SpellsPart}
-use Rattle.rk_laws.proofs.ReadingLemmas.{passed, found_passes}
+use Rattle.rk_bytes.proofs.Callers.Readings.{passed, found_passes}
+use Rattle.rk_bytes.proofs.Callers.Tags.{plain_change, named_change}
 use Rattle.rk_laws.proofs.Readers.{Front, Exact, front_as, read_then, spelled_then, spelled_last, joined, exact_varint32, exact_prefixed, exact_made, Made, reads_or_ok}
 
 no_family : (kind : Kind) → names_family (plain_tag kind) ≡ false
@@ -165,20 +166,6 @@ tagged_ok place sequence tag bytes r are e =
     (record { part = []; whole = refl; spells = (refl, ap (λ tag. tag ∷ []) (eqb-true tag 0xD is)); after = are })) λ other e2.
     let supported = passed (is_unsupported_batch_tag tag) _ _ r e2 in
     read_by_ok place sequence tag bytes r are (kind_of_tag tag) refl supported.1
-
-plain_change : (place sequence : ℕ) (kind : Kind) (bytes : List ℕ) → part_of_tag place sequence (plain_tag kind) bytes ≡ reads_or (BadRecord place) (change_at place sequence (plain_tag kind) kind bytes)
-plain_change place sequence Deletion bytes = refl
-plain_change place sequence Value bytes = refl
-plain_change place sequence Merge bytes = refl
-plain_change place sequence SingleDeletion bytes = refl
-plain_change place sequence RangeDeletion bytes = refl
-
-named_change : (place sequence : ℕ) (kind : Kind) (bytes : List ℕ) → part_of_tag place sequence (family_tag kind) bytes ≡ reads_or (BadRecord place) (change_at place sequence (family_tag kind) kind bytes)
-named_change place sequence Deletion bytes = refl
-named_change place sequence Value bytes = refl
-named_change place sequence Merge bytes = refl
-named_change place sequence SingleDeletion bytes = refl
-named_change place sequence RangeDeletion bytes = refl
 
 change_read : (place sequence tag : ℕ) (kind : Kind) (bytes : List ℕ) → TagOf tag kind → part_of_tag place sequence tag bytes ≡ reads_or (BadRecord place) (change_at place sequence tag kind bytes)
 change_read place sequence tag kind bytes (inl is) =

@@ -6,7 +6,7 @@ use Rattle.rk_bytes.specs.declared.model.block.IndexFault.TheVariants.{Block}
 use Rattle.rk_bytes.specs.declared.model.block.Handle.{Handle}
 use Rattle.rk_bytes.specs.Model.BlockEntries.{Entry, with_fault, no_entry, next_entry, entries_after, block_parts, block_with, right_restarts, block_entries, Spelling, IsBlock, SpellsEntry, no_handle, next_delta_entry, delta_handles, SpellsDeltaEntry}
 use Rattle.rk_bytes.specs.Model.Numbers.{AreBytes}
-use Rattle.rk_laws.proofs.ReadingLemmas.{both_steps, first_step, with_fault_ok, taken, bytes_before}
+use Rattle.rk_bytes.proofs.Callers.Readings.{both_steps, first_step, with_fault_ok, taken, bytes_before}
 use Rattle.rk_laws.proofs.BlockLemmas.{Form, entries_ok, entries-spelled}
 use Rattle.rk_laws.proofs.EntryLemmas.{entry_form}
 use Rattle.rk_laws.proofs.DeltaLemmas.{delta_form}

@@ -3,7 +3,7 @@ use Rattle.std.proofs.Common.{◌≡◌, ℕ, zero, suc, ◌+◌, ◌-◌, ◌�
 use Rattle.std.proofs.lemmas.List.{length-append}
 use Rattle.rk_bytes.specs.Model.Numbers.{AreBytes}
 use Rattle.rk_bytes.specs.Model.BlockEntries.{Entry, entries_after, Spelling, AreEntries}
-use Rattle.rk_laws.proofs.ReadingLemmas.{both_steps, first_step}
+use Rattle.rk_bytes.proofs.Callers.Readings.{both_steps, first_step}
 use Rattle.rk_laws.proofs.Readers.{Exact}
 
 -- The bytes are an entry at this place, after another.

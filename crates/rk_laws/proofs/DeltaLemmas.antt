@@ -9,7 +9,7 @@ use Rattle.rk_bytes.specs.declared.model.block.IndexFault.TheVariants.{Block, Ba
 use Rattle.rk_bytes.specs.declared.model.block.Handle.{Handle}
 use Rattle.rk_bytes.specs.Model.Numbers.{AreBytes, part_of, IsVarint32, IsVarint64, from_zigzag, ◌>>=◌, varint32_at, varint64_at}
 use Rattle.rk_bytes.specs.Model.BlockEntries.{Entry, with_fault, handle_at, fitting_handle, handle_after, delta_key_at, delta_value_at, next_delta_entry, SpellsHandle, SpellsDifference, SpellsDeltaValue, SpellsDeltaKey, SpellsDeltaEntry}
-use Rattle.rk_laws.proofs.ReadingLemmas.{both_steps, first_step, taken, part_of_ok, part_of-within, varint_len}
+use Rattle.rk_bytes.proofs.Callers.Readings.{both_steps, first_step, taken, part_of_ok, part_of-within, varint_len}
 use Rattle.rk_laws.proofs.Readers.{Front, Exact, read_then, spelled_then, spelled_last, joined, exact_varint32, exact_varint64, IsPart, exact_part, exact_word}
 use Rattle.rk_laws.proofs.EntryLemmas.{front_of}
 use Rattle.rk_laws.proofs.BlockLemmas.{SpelledAt, Form}

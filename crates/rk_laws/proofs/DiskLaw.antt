@@ -3,7 +3,7 @@ use Rattle.std.proofs.Common.{◌≡◌, ◌↔◌, ℕ, zero, suc, true, IsTrue
 use Rattle.std.specs.List.{AllByRecursion, enumerate_from}
 use Rattle.std.specs.FinMap.{entries, from_entries}
 use Rattle.rk_bytes.specs.Model.DiskImages.{Directory, Names, NameChange, File, DiskState, synced_file, IsSublist, nothing, kept, left_out, Survive, IsImage, IsAtRest, contents, directory, names_now, after_changes, resting, folder_synced}
-use Rattle.rk_bytes.proofs.DiskLemmas.{contents-resting}
+use Rattle.rk_bytes.proofs.Callers.DiskLemmas.{contents-resting}
 
 -- every change is one of them, and of none there is none
 whole : (changes : List NameChange) → IsSublist changes changes

@@ -7,7 +7,7 @@ use Rattle.rk_bytes.specs.declared.model.edit.EditFault.{EditFault}
 use Rattle.rk_bytes.specs.declared.model.edit.EditFault.TheVariants.{UnknownTag, UnsupportedTag, BadField}
 use Rattle.rk_bytes.specs.declared.model.manifest.Tracked.{Tracked}
 use Rattle.rk_bytes.specs.Model.Numbers.{AreBytes, Read, ◌>>=◌, IsVarint32, IsVarint64, IsPrefixed, varint32_at, varint64_at, prefixed_at, reads_or, in_turn}
-use Rattle.rk_laws.proofs.ReadingLemmas.{both_steps, first_step, passed, varint_len}
+use Rattle.rk_bytes.proofs.Callers.Readings.{both_steps, first_step, passed, varint_len}
 use Rattle.rk_laws.proofs.Readers.{Front, Exact, front_as, exact_varint32, exact_varint64, exact_prefixed, reads_or_ok, exact_or, exact_as, Both, exact_then, Made, exact_made, exact_unless}
 use Rattle.rk_bytes.specs.Model.VersionEdit.{NewFile, Field, comparator, log_number, next_file, last_sequence, compact_cursor, delete_file, add_file, previous_log, least_log, family, family_add, family_drop, greatest_family, group, wal_add, wal_delete, ignored, in_slice, tracked_at, added_log, sequence_at, cursor_at, deleted_at, file_at, sequenced_file_at, custom_file_at, reads, value_readers, value_reader, is_unsupported_edit_tag, is_passed_over, field_of_tag, clashes, field_at, edit_fields, SpellsLevel, SpellsBound, SpellsSequencedFile, SpellsAddedFile, SpellsInSlice, SpellsTracked, SpellsFieldValue, SpellsField, SpellsFields, IsEdit}
 use Rattle.rk_laws.proofs.EditFiles.{SpellsSequence, exact_sequence, exact_cursor, exact_deleted, SpellsPlainFile, exact_file, exact_sequenced, SpellsEnd, exact_custom_file}

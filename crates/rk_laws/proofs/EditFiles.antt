@@ -8,7 +8,7 @@ use Rattle.rk_bytes.specs.declared.model.edit.Seqs.{Seqs}
 use Rattle.rk_bytes.specs.declared.model.edit.EditFault.TheVariants.{UnknownTag, UnsupportedTag, BadField}
 use Rattle.rk_bytes.specs.Model.Numbers.{AreBytes, ◌>>=◌, IsVarint32, IsVarint64, IsPrefixed, varint32_at, varint64_at, prefixed_at, reads_or}
 use Rattle.rk_bytes.specs.Model.InternalKey.{top_sequence}
-use Rattle.rk_laws.proofs.ReadingLemmas.{both_steps, first_step, passed, varint_len, varint32-append, prefixed-append}
+use Rattle.rk_bytes.proofs.Callers.Readings.{both_steps, first_step, passed, varint_len, varint32-append, prefixed-append}
 use Rattle.rk_laws.proofs.Readers.{Front, Exact, exact_varint32, exact_varint64, exact_prefixed, reads_or_ok, exact_or, exact_as, Both, exact_then, Made, exact_made, exact_tested, regroup}
 use Rattle.rk_bytes.specs.Model.VersionEdit.{NewFile, Field, compact_cursor, delete_file, add_file, level_at, bound_at, sequence_at, cursor_at, deleted_at, file_with, file_at, with_sequences, sequenced_file_at, after_path, after_custom, after_customs, custom_file_at, SpellsLevel, SpellsBound, SpellsFile, SpellsSequencedFile, MayPass, SpellsCustoms, no_custom, one_custom}
 

@@ -7,7 +7,7 @@ use Rattle.rk_bytes.specs.declared.model.number.NumFault.TheVariants.{TooLarge}
 use Rattle.rk_bytes.specs.declared.model.manifest.Tracked.{Tracked}
 use Rattle.rk_bytes.specs.Model.Numbers.{AreBytes, Read, ◌>>=◌, IsVarint32, IsVarint64, IsPrefixed, varint32_at, varint64_at, prefixed_at}
 use Rattle.rk_bytes.specs.Model.VersionEdit.{in_slice, synced_sizes_at, tracked_with, tracked_at, SpellsInSlice, SpellsSyncedSizes, no_size, one_size, SpellsTracked}
-use Rattle.rk_laws.proofs.ReadingLemmas.{both_steps, first_step, passed, varint_len, varint32-append, varint64-append, prefixed-append, rest_of_bytes, bytes_before}
+use Rattle.rk_bytes.proofs.Callers.Readings.{both_steps, first_step, passed, varint_len, varint32-append, varint64-append, prefixed-append, rest_of_bytes, bytes_before}
 use Rattle.rk_laws.proofs.Readers.{Front, Exact, exact_varint32, exact_varint64, exact_prefixed, exact_as, Both, exact_then, Made, exact_made, regroup}
 
 -- the bytes of a slice

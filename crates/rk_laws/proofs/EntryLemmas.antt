@@ -5,7 +5,7 @@ use Rattle.std.proofs.Math.Seq.{take-append_seam}
 use Rattle.rk_bytes.specs.declared.model.block.BlockFault.TheVariants.{BadEntry}
 use Rattle.rk_bytes.specs.Model.Numbers.{AreBytes, part_of, IsVarint32, varint32_at}
 use Rattle.rk_bytes.specs.Model.BlockEntries.{Entry, with_fault, entry_at, next_entry, SpellsEntry}
-use Rattle.rk_laws.proofs.ReadingLemmas.{both_steps, first_step, part_of_ok, part_of-within, varint_len}
+use Rattle.rk_bytes.proofs.Callers.Readings.{both_steps, first_step, part_of_ok, part_of-within, varint_len}
 use Rattle.rk_laws.proofs.Readers.{Front, Exact, read_then, spelled_then, spelled_last, joined, exact_varint32, IsPart, exact_part, exact_word}
 use Rattle.rk_laws.proofs.BlockLemmas.{SpelledAt, Form}
 

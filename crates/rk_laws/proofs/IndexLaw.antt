@@ -8,7 +8,7 @@ use Rattle.rk_bytes.specs.declared.model.block.Handle.{Handle}
 use Rattle.rk_bytes.specs.declared.model.block.IndexEntry.{IndexEntry}
 use Rattle.rk_bytes.specs.Model.Numbers.{AreBytes, Read}
 use Rattle.rk_bytes.specs.Model.BlockEntries.{Entry, with_fault, collected, whole, rises, is_restart, right_restarts, no_entry, block_entries, AreEntries, IsBlock, SpellsEntryWith, SpellsEntry, handle_at, no_handle, SpellsHandle, delta_handles, with_value, with_handle, whole_handles, index_entries, IsIndex}
-use Rattle.rk_laws.proofs.ReadingLemmas.{both_steps, first_step, with_fault_ok, rest_of_bytes, bytes_after, bytes_before}
+use Rattle.rk_bytes.proofs.Callers.Readings.{both_steps, first_step, with_fault_ok, rest_of_bytes, bytes_after, bytes_before}
 use Rattle.rk_laws.proofs.DeltaLemmas.{exact_handle}
 use Rattle.rk_laws.proofs.BlockLaw.{block_entries_ok, block_entries-block, delta_handles_ok, delta_handles-block}
 

@@ -13,7 +13,6 @@ mod EditFiles
 mod EditTracked
 mod EntryLemmas
 mod FilesAtPoints
-mod FixedNumbers
 mod IndexLaw
 mod KeyViewLemmas
 mod KeyViewRows
@@ -25,7 +24,6 @@ mod OpeningLemmas
 mod Orders
 mod PartingLemmas
 mod Readers
-mod ReadingLemmas
 mod RecordMaps
 mod ReplayLaw
 mod ReplayLemmas
@@ -34,6 +32,5 @@ mod SalvageFiles
 mod SalvageLemmas
 mod SalvageSteps
 mod UsableUnits
-mod Varints
 mod VersionOrder
 mod VersionSteps

@@ -23,7 +23,7 @@ use Rattle.rk_bytes.specs.Model.Replay.{Log, Replayed, replay}
 use Rattle.rk_bytes.specs.Model.Opening.{Files, Opened, TableFile, greatest_sequence, table_records, table_file, tracked_log, listed_tables, named_manifest, version_in, logs_of, opened, open_files, open_directory}
 use Rattle.rk_laws.proofs.Orders.{slot_cmp-only_equal}
 use Rattle.rk_laws.proofs.RecordMaps.{entry_of}
-use Rattle.rk_laws.proofs.ReadingLemmas.{both_steps, first_step, with_fault_ok}
+use Rattle.rk_bytes.proofs.Callers.Readings.{both_steps, first_step, with_fault_ok}
 use Rattle.rk_laws.proofs.SalvageLemmas.{kind_number-small, last_placed-entries}
 use Rattle.rk_laws.proofs.KeyViewLemmas.{InSlots, placed_in_slots}
 

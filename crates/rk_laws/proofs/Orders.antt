@@ -10,8 +10,8 @@ use Rattle.rk_bytes.specs.Model.Numbers.{AreBytes}
 use Rattle.rk_bytes.specs.Model.InternalKey.{user_key, packed, key_cmp}
 use Rattle.rk_bytes.specs.Model.Records.{slot_cmp}
 pub use Rattle.rk_bytes.specs.Model.Records.{slot_cmp-total}
-use Rattle.rk_laws.proofs.FixedNumbers.{little_endian-only_equal}
-use Rattle.rk_laws.proofs.ReadingLemmas.{bytes_after}
+use Rattle.rk_bytes.proofs.Callers.FixedNumbers.{little_endian-only_equal}
+use Rattle.rk_bytes.proofs.Callers.Readings.{bytes_after}
 
 pub key_cmp-total : IsTotalOrder key_cmp
 key_cmp-total = then_total (on_total user_key nat_list_cmp_total) (back_total (on_total packed nat_cmp_total))

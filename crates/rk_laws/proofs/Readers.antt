@@ -3,7 +3,7 @@ use Rattle.std.proofs.Common.{◌≡◌, ◌↔◌, ℕ, Bool, true, false, cond
 use Rattle.std.proofs.lemmas.Bool.{cond-true, cond-false}
 use Rattle.rk_bytes.specs.Model.Numbers.{AreBytes, Read, ◌>>=◌, IsVarint32, IsVarint64, IsPrefixed, part_of, varint32_at, varint64_at, prefixed_at, reads_or}
 use Rattle.rk_bytes.specs.Model.BlockEntries.{with_fault}
-use Rattle.rk_laws.proofs.ReadingLemmas.{both_steps, first_step, with_fault_ok, passed, taken, bytes_after, part_of_ok, part_of-append, varint32_ok, varint32-append, varint64_ok, varint64-append, prefixed_ok, prefixed-append}
+use Rattle.rk_bytes.proofs.Callers.Readings.{both_steps, first_step, with_fault_ok, passed, taken, bytes_after, part_of_ok, part_of-append, varint32_ok, varint32-append, varint64_ok, varint64-append, prefixed_ok, prefixed-append}
 
 -- the bytes that spell what was read, and those after it
 pub record Front {A : Type 0} (Spells : List ℕ → A → Type 0) (bytes : List ℕ) (r : A × List ℕ) : Type 0 where

@@ -8,8 +8,8 @@ use Rattle.std.proofs.Math.Seq.{take-append_seam, drop-append_seam, drop-append-
 use Rattle.rk_bytes.specs.declared.model.block.BlockFault.{BlockFault}
 use Rattle.rk_bytes.specs.Model.Numbers.{AreBytes, little_endian, fixed_of}
 use Rattle.rk_bytes.specs.Model.BlockEntries.{fixed32s, restart_count, block_parts}
-use Rattle.rk_laws.proofs.ReadingLemmas.{passed, rest_of_bytes, front_of_bytes, bytes_after}
-use Rattle.rk_laws.proofs.FixedNumbers.{little_endian-fixed_of, fixed_of-little_endian}
+use Rattle.rk_bytes.proofs.Callers.Readings.{passed, rest_of_bytes, front_of_bytes, bytes_after}
+use Rattle.rk_bytes.proofs.Callers.FixedNumbers.{little_endian-fixed_of, fixed_of-little_endian}
 
 -- the offsets that bytes spell, and their bytes again
 fixed32s-bytes : (n : ℕ) (bytes : List ℕ) → AreBytes bytes → length bytes ≡ 4 * n → (flat_map (fixed_of 4) (fixed32s bytes) ≡ bytes) × (length (fixed32s bytes) ≡ n) × AllByRecursion (λ offset. offset < 2 ^ 32) (fixed32s bytes)

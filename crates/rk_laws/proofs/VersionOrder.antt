@@ -15,7 +15,7 @@ use Rattle.rk_bytes.specs.declared.model.manifest.Version.{Version}
 use Rattle.rk_bytes.specs.Model.Numbers.{◌>>=◌}
 use Rattle.rk_bytes.specs.Model.VersionEdit.{Field, NewFile, comparator, log_number, next_file, last_sequence, compact_cursor, delete_file, add_file, previous_log, least_log, family, family_add, family_drop, greatest_family, group, wal_add, wal_delete, ignored, log_number_in, deleted_in, added_in, family_add_in, drops_family}
 use Rattle.rk_bytes.specs.Model.Manifest.{ManifestUnit, stated, first_version, steps_in_order, edit_family, has_other_comparator, has_id, has_name, with_families, add_family, drop_family, family_step, has_number, with_files, delete_step, file_meta, add_meta, add_step, file_steps, risen, with_numbers, track_field, tracked_after, edit_step, overlap, unit_step, in_unit, version_after, version_at}
-use Rattle.rk_laws.proofs.ReadingLemmas.{both_steps, passed, taken}
+use Rattle.rk_bytes.proofs.Callers.Readings.{both_steps, passed, taken}
 use Rattle.rk_laws.proofs.VersionSteps.{known_with, unless_found, no_overlap, in_unit_ok}
 use Rattle.rk_laws.proofs.EachElement.{each_so, each_append, each_filter, each_map}
 

@@ -7,7 +7,7 @@ use Rattle.std.proofs.lemmas.List.{drop_more}
 use Rattle.std.proofs.lemmas.Slice.Eq.{bytes_eq-Decides}
 use Rattle.std.specs.Option.{option_and_then}
 use Rattle.rk_bytes.specs.Model.Grammar.{Command, scan, get, families, manifest_dump, dump_wal, check, repair, sst, drill, hex_of, number_of, dump_wal_of, command_of}
-use Rattle.rk_bytes.proofs.CommandLemmas.{command_of-SpellsCommand, number_spelled, number_read}
+use Rattle.rk_bytes.proofs.Callers.CommandLemmas.{command_of-SpellsCommand, number_spelled, number_read}
 use Rattle.rk_ldb.specs.Built.{built, built_command}
 
 only_dumps : (command : Option Command) → ((n : ℕ) (hex : Bool) → command ≡ Some (dump_wal n hex) → ⊥) → built command ≡ None

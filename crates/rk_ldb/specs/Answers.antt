@@ -1,7 +1,7 @@
 -- What the statuses of a run say of what was taken.
 use Rattle.std.specs.Prelude.{ℕ, ◌<◌, ◌++◌, List, Option, length, take}
 use Rattle.rk_bytes.specs.declared.model.status.Status.{Status}
-use Rattle.rk_bytes.specs.declared.model.status.Status.TheVariants.{Done, Refused, Usage}
+use Rattle.rk_bytes.specs.declared.model.status.Status.TheVariants.{Done, Refused, Usage, NotFound}
 use Rattle.rk_bytes.specs.Model.Output.{Took, joined}
 
 -- the status of a run that came to its output's end
@@ -9,9 +9,10 @@ abbrev pub IsAnswer : Status → Type 0
 IsAnswer Done = Unit {0}
 IsAnswer Refused = Unit {0}
 IsAnswer Usage = Unit {0}
+IsAnswer NotFound = Unit {0}
 IsAnswer _ = ⊥
 
--- the same, of words that spell a command
+-- the same, of words that spell a command that the program has
 abbrev pub IsCommandAnswer : Status → Type 0
 IsCommandAnswer Done = Unit {0}
 IsCommandAnswer Refused = Unit {0}

@@ -9,7 +9,7 @@ pub enum Status {
     Done,
     /// One line said why there is no other.
     Refused,
-    /// The words are in no command's grammar.
+    /// The words are in the grammar of no command that the program has.
     Usage,
     /// A call of the disk failed.
     DiskFault,

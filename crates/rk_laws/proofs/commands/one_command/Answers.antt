@@ -1,4 +1,4 @@
-use Rattle.rk_bytes.proofs.CommandLemmas.{command_of-SpellsCommand, SpellsCommand-unique}
+use Rattle.rk_bytes.proofs.Callers.CommandLemmas.{command_of-SpellsCommand, SpellsCommand-unique}
 use Rattle.rk_laws.proofs.commands.one_command.Goals as goal
 
 pub returns-clause-read : goal.returns-clause-read

@@ -1,4 +1,4 @@
-use Rattle.rk_bytes.proofs.DiskLemmas.{contents-resting}
+use Rattle.rk_bytes.proofs.Callers.DiskLemmas.{contents-resting}
 use Rattle.rk_laws.proofs.DiskLaw.{resting-IsAtRest}
 use Rattle.rk_laws.proofs.disk_images.contents_at_rest.Goals as goal
 

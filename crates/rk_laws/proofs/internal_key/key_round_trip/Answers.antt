@@ -8,9 +8,9 @@ use Rattle.rk_bytes.specs.declared.model.key.KeyFault.{KeyFault}
 use Rattle.rk_bytes.specs.declared.model.key.KeyFault.TheVariants.{Short}
 use Rattle.rk_bytes.specs.Model.Numbers.{AreBytes, little_endian, fixed_of}
 use Rattle.rk_bytes.specs.Model.InternalKey.{kind_number, all_kinds, kind_of, packed_of, user_key, packed, internal_key, KeyParts, kind_fault, key_parts}
-use Rattle.rk_laws.proofs.FixedNumbers.{little_endian-fixed_of, length-fixed_of, fixed_of-little_endian}
+use Rattle.rk_bytes.proofs.Callers.FixedNumbers.{little_endian-fixed_of, length-fixed_of, fixed_of-little_endian}
 use Rattle.rk_laws.proofs.Orders.{AreBytes-drop, length-end}
-use Rattle.rk_laws.proofs.ReadingLemmas.{found_passes}
+use Rattle.rk_bytes.proofs.Callers.Readings.{found_passes}
 use Rattle.rk_laws.proofs.internal_key.key_round_trip.Goals as goal
 
 kind_of-kind_number : (kind : Kind) → kind_of (kind_number kind) ≡ Some kind

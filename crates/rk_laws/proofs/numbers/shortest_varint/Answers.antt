@@ -1,4 +1,4 @@
-use Rattle.rk_laws.proofs.Varints.{IsVarint32-varint_of, IsVarint64-varint_of, shortest}
+use Rattle.rk_bytes.proofs.Callers.Varints.{IsVarint32-varint_of, IsVarint64-varint_of, shortest}
 use Rattle.rk_laws.proofs.numbers.shortest_varint.Goals as goal
 
 pub returns-clause-narrow : goal.returns-clause-narrow

@@ -3,7 +3,7 @@ use Rattle.std.specs.Option.{option_map}
 use Rattle.std.specs.FinMap as map
 use Rattle.rk_bytes.specs.Model.DiskImages.{Directory, told_at_rest, part_of_file}
 use Rattle.rk_disk.specs.InMemory.{after_read, after_reading}
-use Rattle.rk_bytes.proofs.DiskLemmas.{contents-resting}
+use Rattle.rk_bytes.proofs.Callers.DiskLemmas.{contents-resting}
 use Rattle.rk_disk.proofs.mem_disk.MemDiskDisk.TheImpl.Goals as goal
 
 pub names-tells : goal.names-tells

@@ -1,13 +1,13 @@
 -- A number's shortest varint is read again, whatever follows it, and no spelling is shorter.
-use Rattle.std.proofs.Common.{◌≡◌, ℕ, zero, suc, ◌+◌, ◌*◌, ◌/◌, ◌%◌, ◌^◌, ◌<◌, ◌≤◌, Bool, true, false, List, [], ◌∷◌, ◌++◌, length, take, drop, nat_lt, nat_le, cond, refl, sym, ap, subst, ◌∙◌, arith, length-append}
+use Rattle.std.proofs.Common.{◌≡◌, ℕ, zero, suc, ◌+◌, ◌*◌, ◌/◌, ◌%◌, ◌^◌, ◌<◌, ◌≤◌, Bool, true, false, List, [], ◌∷◌, ◌++◌, length, take, drop, nat_lt, nat_le, cond, refl, sym, ap, subst, ◌∙◌, arith, append_assoc, length-append}
 use Rattle.std.specs.Prelude.{Ok, Err}
 use Rattle.std.specs.List.{prefix_len}
 use Rattle.std.proofs.lemmas.List.Folds.{length-prefix_len}
 use Rattle.std.proofs.Math.Seq.{take-append_seam, drop-append_seam}
 use Rattle.std.proofs.lemmas.Bool.{ltb-true, ltb-false, lt-ltb, le-ltb, le-leb, lt-leb}
 use Rattle.rk_bytes.specs.declared.model.number.NumFault.TheVariants.{Cut, TooLarge}
-use Rattle.rk_bytes.specs.Model.Numbers.{IsVarint, IsVarint32, IsVarint64, Read, varint_with, varint_of, varint_at, groups_value, high_count}
-use Rattle.rk_laws.proofs.ReadingLemmas.{one_more_group}
+use Rattle.rk_bytes.specs.Model.Numbers.{IsVarint, IsVarint32, IsVarint64, Read, varint_with, varint_of, varint_at, varint32_at, varint64_at, prefixed_of, prefixed_at, groups_value, high_count}
+use Rattle.rk_bytes.proofs.Callers.Readings.{first_step, one_more_group, part_of-append}
 
 -- 128 to the power of more + 1
 abbrev bound : ℕ → ℕ
@@ -78,6 +78,19 @@ varint_at-varint most bits more n rest below fewer fits =
     let len_is : high_count (bytes ++ rest) + 1 ≡ length bytes = ap (λ len. len + 1) (length-prefix_len is_high (bytes ++ rest)) ∙ prefix_len-varint more n rest below in
     ap (λ len. answer (suc most) bits len (bytes ++ rest)) len_is
     ∙ answer-append (suc most) bits n bytes rest (groups_value-varint more n below) (length-varint more most n fewer) fits
+
+-- the varints and slices that are written are read again, whatever follows them
+pub varint32-written : (n : ℕ) (rest : List ℕ) → n < 2 ^ 32 → varint32_at (varint_of n ++ rest) ≡ Ok (n, rest)
+varint32-written n rest below = varint_at-varint 4 32 9 n rest (omega arith) (omega arith) below
+
+pub varint64-written : (n : ℕ) (rest : List ℕ) → n < 2 ^ 64 → varint64_at (varint_of n ++ rest) ≡ Ok (n, rest)
+varint64-written n rest below = varint_at-varint 9 64 9 n rest (omega arith) (omega arith) below
+
+pub prefixed-written : (slice rest : List ℕ) → length slice < 2 ^ 32 → prefixed_at (prefixed_of slice ++ rest) ≡ Ok (slice, rest)
+prefixed-written slice rest short =
+    ap prefixed_at (append_assoc (varint_of (length slice)) slice rest)
+    ∙ first_step (varint32_at (varint_of (length slice) ++ (slice ++ rest))) _ _ (varint32-written (length slice) (slice ++ rest) short)
+    ∙ part_of-append slice rest
 
 -- what is written is a varint
 groups-varint : (more n : ℕ) → n < bound more → IsVarint (varint_with more n)
