@@ -8,10 +8,10 @@ use Rattle.std.proofs.lemmas.Bool.{cases_lt, le-ltb, false≢true}
 use Rattle.rk_bytes.specs.declared.model.log.EndKind.TheVariants.{Clean}
 use Rattle.rk_bytes.specs.Model.LogMarks.{Mark, LogFile, up_to_end, block_len, blocks_marks, file_blocks, block_type, first_type, is_recycled, is_recyclable, is_zero_header, payload_len, log_marks}
 use Rattle.rk_bytes.specs.Model.LogItems.{Item, rec, end, parting, log_items}
-use Rattle.rk_bytes.specs.Model.WrittenLogs.{written_type, written_log, written_header_len, fragment_bytes, part_type, payload_room, parts_bytes, padding, record_bytes}
+use Rattle.rk_bytes.specs.Model.WrittenLogs.{written_type, written_header_len, fragment_bytes, written_record, written_log}
 use Rattle.rk_bytes.specs.declared.memory.Memory.{Memory}
-use Rattle.rk_log.specs.Writing.{Writing, Extends, SameLow, GivesBack}
-use Rattle.rk_log.proofs.WriteLemmas.{block_len-is, room_is, header_len-range, length-fragment_bytes, parts_bytes-last, parts_bytes-more, padding-some, padding-none, padded_place, enough_more, enough_none, fills}
+use Rattle.rk_log.specs.Writing.{Writing, Extends, part_type, padding, SameLow, GivesBack}
+use Rattle.rk_log.proofs.WriteLemmas.{block_len-is, payload_room, room_is, header_len-range, length-fragment_bytes, left_fragments, left_fragments-last, left_fragments-more, padding-some, padding-none, padded_place, padded_record, fills}
 use Rattle.rk_log.proofs.BlockLemmas.{file_blocks-none, first_type-first, type_or}
 use Rattle.rk_log.proofs.RoundTrip.{spells, kind_says, file_with, part_mark, found_written}
 use Rattle.rk_log.proofs.Stream.{left_at, ahead, ahead-start, ahead-none, ahead-fragment, ahead-padding}
@@ -51,68 +51,81 @@ part_more file_len pos from true front payload marks fresh =
     λ i. parting (Some (sym is.0 i ++ payload, sym is.1 i)) (up_to_end file_len marks)
 part_more file_len pos from false front payload marks fresh = refl
 
-parts_last_read : (reader : ℕ) (number : Option ℕ) (n : ℕ) (begins : Bool) (front : List ℕ) (from pos : ℕ) (payload rest : List ℕ) (file_len : ℕ) → SameLow reader number
+-- the last fragment of a record is read
+last_read : (reader : ℕ) (number : Option ℕ) (begins : Bool) (front : List ℕ) (from pos : ℕ) (payload rest : List ℕ) (file_len : ℕ) → SameLow reader number
+    → (begins ≡ false → pos % 32768 ≡ 0) → (begins ≡ false → 0 < length payload)
     → length payload ≤ payload_room number pos → written_header_len number ≤ left_at pos → (begins ≡ true → (front ≡ []) × (from ≡ pos))
-    → read (file_with reader number) file_len pos (begun_by begins front from) (parts_bytes number n begins pos payload ++ rest)
-    ≡ rec (front ++ payload) from ∷ read (file_with reader number) file_len (pos + length (parts_bytes number n begins pos payload)) None rest
+    → read (file_with reader number) file_len pos (begun_by begins front from) (left_fragments number begins pos payload ++ rest)
+    ≡ rec (front ++ payload) from ∷ read (file_with reader number) file_len (pos + length (left_fragments number begins pos payload)) None rest
 unfolding read
-parts_last_read reader number n begins front from pos payload rest file_len same fits place fresh =
+last_read reader number begins front from pos payload rest file_len same filled some fits place fresh =
     let file = file_with reader number in
-    let is = parts_bytes-last number n begins pos payload fits in
-    let len : pos + (written_header_len number + length payload) ≡ pos + length (parts_bytes number n begins pos payload) = omega (arith, ap length is, length-fragment_bytes number (part_type begins true) payload) in
+    let is = left_fragments-last number begins pos payload fits filled some in
+    let len : pos + (written_header_len number + length payload) ≡ pos + length (left_fragments number begins pos payload) = omega (arith, ap length is, length-fragment_bytes number (part_type begins true) payload) in
     ap (λ bytes. parting (begun_by begins front from) (up_to_end file_len (ahead file pos (bytes ++ rest)))) is
     ∙ (ap (λ marks. parting (begun_by begins front from) (up_to_end file_len marks)) (ahead-written reader number begins true pos payload rest same (omega (arith, room_is number pos)))
     ∙ (part_last file file_len pos from begins front payload (ahead file (pos + (written_header_len number + length payload)) rest) fresh
     ∙ ap (λ p. rec (front ++ payload) from ∷ parting None (up_to_end file_len (ahead file p rest))) len))
 
 -- a fragment that fills its block is read, and then the others
-part_more_read : (reader : ℕ) (number : Option ℕ) (n : ℕ) (begins : Bool) (front : List ℕ) (from pos : ℕ) (payload rest : List ℕ) (file_len : ℕ) → SameLow reader number
+more_read : (reader : ℕ) (number : Option ℕ) (begins : Bool) (front : List ℕ) (from pos : ℕ) (payload rest : List ℕ) (file_len : ℕ) → SameLow reader number
+    → (begins ≡ false → pos % 32768 ≡ 0)
     → payload_room number pos < length payload → written_header_len number ≤ left_at pos → (begins ≡ true → (front ≡ []) × (from ≡ pos))
     → let room = payload_room number pos in
-    let later = parts_bytes number n false (pos + written_header_len number + room) (drop room payload) in
-    read (file_with reader number) file_len pos (begun_by begins front from) (parts_bytes number (suc n) begins pos payload ++ rest)
-    ≡ read (file_with reader number) file_len (pos + written_header_len number + room) (begun_by false (front ++ take room payload) from) (later ++ rest)
+    let next = pos + written_header_len number + room in
+    read (file_with reader number) file_len pos (begun_by begins front from) (left_fragments number begins pos payload ++ rest)
+    ≡ read (file_with reader number) file_len next (begun_by false (front ++ take room payload) from) (left_fragments number false next (drop room payload) ++ rest)
 unfolding read
-part_more_read reader number n begins front from pos payload rest file_len same more place fresh =
+more_read reader number begins front from pos payload rest file_len same filled more place fresh =
     let file = file_with reader number in
     let room = payload_room number pos in
-    let later = parts_bytes number n false (pos + written_header_len number + room) (drop room payload) in
+    let later = left_fragments number false (pos + written_header_len number + room) (drop room payload) in
     let own = fragment_bytes number (part_type begins false) (take room payload) in
     let taken : length (take room payload) ≡ room = length-take room payload ∙ omega arith in
     let next : pos + (written_header_len number + length (take room payload)) ≡ pos + written_header_len number + room = omega (arith, taken) in
     ap (λ bytes. parting (begun_by begins front from) (up_to_end file_len (ahead file pos bytes)))
-    (ap (λ bytes. bytes ++ rest) (parts_bytes-more number n begins pos payload more) ∙ append_assoc own later rest)
+    (ap (λ bytes. bytes ++ rest) (left_fragments-more number begins pos payload more filled) ∙ append_assoc own later rest)
     ∙ (ap (λ marks. parting (begun_by begins front from) (up_to_end file_len marks)) (ahead-written reader number begins false pos (take room payload) (later ++ rest) same (omega (arith, taken, room_is number pos)))
     ∙ (part_more file_len pos from begins front (take room payload) (ahead file (pos + (written_header_len number + length (take room payload))) (later ++ rest)) fresh
     ∙ ap (λ p. parting (begun_by false (front ++ take room payload) from) (up_to_end file_len (ahead file p (later ++ rest)))) next))
 
-some_room : (number : Option ℕ) (pos : ℕ) (begins : Bool) → (begins ≡ false → pos % 32768 ≡ 0) → begins ≡ false → 1 ≤ payload_room number pos
-some_room number pos begins filled later = let header = header_len-range number in omega (arith, room_is number pos, filled later, header.1)
+-- how much is left to be read: its bytes, and one more before the first fragment, which may be empty
+abbrev to_read : Bool → List ℕ → ℕ
+to_read true payload = 1 + length payload
+to_read false payload = length payload
 
-parts_read : (reader : ℕ) (number : Option ℕ) (n : ℕ) (begins : Bool) (front : List ℕ) (from pos : ℕ) (payload rest : List ℕ) (file_len : ℕ) → SameLow reader number
-    → length payload ≤ cond begins n (n + 1) → (begins ≡ false → pos % 32768 ≡ 0) → written_header_len number ≤ left_at pos → (begins ≡ true → (front ≡ []) × (from ≡ pos))
-    → read (file_with reader number) file_len pos (begun_by begins front from) (parts_bytes number n begins pos payload ++ rest)
-    ≡ rec (front ++ payload) from ∷ read (file_with reader number) file_len (pos + length (parts_bytes number n begins pos payload)) None rest
-parts_read reader number zero begins front from pos payload rest file_len same enough filled place fresh = elim (cases_lt (payload_room number pos) (length payload)) [
-  | inl more ↦ absurd (enough_none begins (length payload) (payload_room number pos) enough (some_room number pos begins filled) more)
-  | inr fits ↦ parts_last_read reader number zero begins front from pos payload rest file_len same fits place fresh
-]
-parts_read reader number (suc n) begins front from pos payload rest file_len same enough filled place fresh = elim (cases_lt (payload_room number pos) (length payload)) [
-  | inr fits ↦ parts_last_read reader number (suc n) begins front from pos payload rest file_len same fits place fresh
+none_to_read : (begins : Bool) (payload : List ℕ) → to_read begins payload ≤ 0 → (begins ≡ false → 0 < length payload) → ⊥
+none_to_read true payload none some = omega arith
+none_to_read false payload none some = omega (arith, some refl)
+
+less_to_read : (number : Option ℕ) (n : ℕ) (begins : Bool) (pos : ℕ) (payload : List ℕ) → to_read begins payload ≤ suc n → (begins ≡ false → pos % 32768 ≡ 0)
+    → length payload - payload_room number pos ≤ n
+less_to_read number n true pos payload enough filled = omega arith
+less_to_read number n false pos payload enough filled = let header = header_len-range number in omega (arith, room_is number pos, filled refl, header.1)
+
+fragments_read : (reader : ℕ) (number : Option ℕ) (n : ℕ) (begins : Bool) (front : List ℕ) (from pos : ℕ) (payload rest : List ℕ) (file_len : ℕ) → SameLow reader number
+    → to_read begins payload ≤ n → (begins ≡ false → pos % 32768 ≡ 0) → (begins ≡ false → 0 < length payload)
+    → written_header_len number ≤ left_at pos → (begins ≡ true → (front ≡ []) × (from ≡ pos))
+    → read (file_with reader number) file_len pos (begun_by begins front from) (left_fragments number begins pos payload ++ rest)
+    ≡ rec (front ++ payload) from ∷ read (file_with reader number) file_len (pos + length (left_fragments number begins pos payload)) None rest
+fragments_read reader number zero begins front from pos payload rest file_len same enough filled some place fresh = absurd (none_to_read begins payload enough some)
+fragments_read reader number (suc n) begins front from pos payload rest file_len same enough filled some place fresh = elim (cases_lt (payload_room number pos) (length payload)) [
+  | inr fits ↦ last_read reader number begins front from pos payload rest file_len same filled some fits place fresh
   | inl more ↦
       let file = file_with reader number in
       let room = payload_room number pos in
       let header = header_len-range number in
       let next = pos + written_header_len number + room in
-      let later = parts_bytes number n false next (drop room payload) in
+      let later = left_fragments number false next (drop room payload) in
       let start : next % 32768 ≡ 0 = fills pos (written_header_len number) room next (room_is number pos) place (omega arith) in
       let taken : length (take room payload) ≡ room = length-take room payload ∙ omega arith in
-      let len : next + length later ≡ pos + length (parts_bytes number (suc n) begins pos payload) =
-      omega (arith, ap length (parts_bytes-more number n begins pos payload more), length-append (fragment_bytes number (part_type begins false) (take room payload)) later, length-fragment_bytes number (part_type begins false) (take room payload), taken) in
-      part_more_read reader number n begins front from pos payload rest file_len same more place fresh
-      ∙ (parts_read reader number n false (front ++ take room payload) from next (drop room payload) rest file_len same
-      (enough_more begins n (length payload) (length (drop room payload)) room enough (some_room number pos begins filled) (length-drop room payload))
-      (λ _. start) (omega (arith, start, header.1)) (λ begins_no. absurd (false≢true begins_no))
+      let left : length (drop room payload) ≡ length payload - room = length-drop room payload in
+      let less : to_read false (drop room payload) ≤ n = omega (arith, left, less_to_read number n begins pos payload enough filled) in
+      let len : next + length later ≡ pos + length (left_fragments number begins pos payload) =
+      omega (arith, ap length (left_fragments-more number begins pos payload more filled), length-append (fragment_bytes number (part_type begins false) (take room payload)) later, length-fragment_bytes number (part_type begins false) (take room payload), taken) in
+      more_read reader number begins front from pos payload rest file_len same filled more place fresh
+      ∙ (fragments_read reader number n false (front ++ take room payload) from next (drop room payload) rest file_len same less
+      (λ _. start) (λ _. omega (arith, left, more)) (omega (arith, start, header.1)) (λ begins_no. absurd (false≢true begins_no))
       ∙ (λ i. rec ((append_assoc front (take room payload) (drop room payload) ∙ ap (λ bytes. front ++ bytes) (take-append-drop room payload)) i) from ∷ read file file_len (len i) None rest))
 ]
 
@@ -133,36 +146,38 @@ padding_read file number pos bytes = elim (cases_lt (left_at pos) (written_heade
 
 -- a record is read, and then what follows it
 pub record_read : (reader : ℕ) (number : Option ℕ) (pos : ℕ) (payload rest : List ℕ) (file_len : ℕ) → SameLow reader number
-    → read (file_with reader number) file_len pos None (record_bytes number pos payload ++ rest)
-    ≡ rec payload (pos + length (padding number pos)) ∷ read (file_with reader number) file_len (pos + length (record_bytes number pos payload)) None rest
-unfolding read record_bytes begun_by
+    → read (file_with reader number) file_len pos None (written_record number pos payload ++ rest)
+    ≡ rec payload (pos + length (padding number pos)) ∷ read (file_with reader number) file_len (pos + length (written_record number pos payload)) None rest
+unfolding read begun_by left_fragments
 record_read reader number pos payload rest file_len same =
     let file = file_with reader number in
     let pad = padding number pos in
     let place = pos + length pad in
-    let parts = parts_bytes number (length payload) true place payload in
-    let len : place + length parts ≡ pos + length (pad ++ parts) = omega (arith, length-append pad parts) in
-    ap (λ bytes. parting None (up_to_end file_len (ahead file pos bytes))) (append_assoc pad parts rest)
-    ∙ (ap (λ marks. parting None (up_to_end file_len marks)) (padding_read file number pos (parts ++ rest))
-    ∙ (parts_read reader number (length payload) true [] place place payload rest file_len same (omega arith) (λ begins. absurd (false≢true (sym begins))) (padded_place number pos) (λ _. (refl, refl))
+    let fragments = left_fragments number true place payload in
+    let is : written_record number pos payload ≡ pad ++ fragments = sym (padded_record number pos payload) in
+    let len : place + length fragments ≡ pos + length (written_record number pos payload) = omega (arith, ap length is, length-append pad fragments) in
+    ap (λ bytes. parting None (up_to_end file_len (ahead file pos bytes))) (ap (λ bytes. bytes ++ rest) is ∙ append_assoc pad fragments rest)
+    ∙ (ap (λ marks. parting None (up_to_end file_len marks)) (padding_read file number pos (fragments ++ rest))
+    ∙ (fragments_read reader number (1 + length payload) true [] place place payload rest file_len same (omega arith)
+    (λ begins. absurd (false≢true (sym begins))) (λ begins. absurd (false≢true (sym begins))) (padded_place number pos) (λ _. (refl, refl))
     ∙ ap (λ p. rec payload place ∷ parting None (up_to_end file_len (ahead file p rest))) len))
 
 -- ---- the whole log
 
 add_record : Option ℕ → List ℕ → List ℕ → List ℕ
-add_record number log payload = log ++ record_bytes number (length log) payload
+add_record number log payload = log ++ written_record number (length log) payload
 
 -- the records that follow a log
 records_after : Option ℕ → List ℕ → List (List ℕ) → List ℕ
 records_after number log [] = []
-records_after number log (payload ∷ payloads) = record_bytes number (length log) payload ++ records_after number (add_record number log payload) payloads
+records_after number log (payload ∷ payloads) = written_record number (length log) payload ++ records_after number (add_record number log payload) payloads
 
-log_extends : (number : Option ℕ) (log : List ℕ) (payloads : List (List ℕ)) → fold (λ log payload. log ++ record_bytes number (length log) payload) log payloads ≡ log ++ records_after number log payloads
+log_extends : (number : Option ℕ) (log : List ℕ) (payloads : List (List ℕ)) → fold (λ log payload. log ++ written_record number (length log) payload) log payloads ≡ log ++ records_after number log payloads
 unfolding records_after add_record
 log_extends number log [] = sym (append-nil log)
 log_extends number log (payload ∷ payloads) =
-    log_extends number (log ++ record_bytes number (length log) payload) payloads
-    ∙ append_assoc log (record_bytes number (length log) payload) (records_after number (log ++ record_bytes number (length log) payload) payloads)
+    log_extends number (log ++ written_record number (length log) payload) payloads
+    ∙ append_assoc log (written_record number (length log) payload) (records_after number (log ++ written_record number (length log) payload) payloads)
 
 GivesBack-after : (reader : ℕ) (number : Option ℕ) (payloads : List (List ℕ)) (log : List ℕ) (file_len : ℕ) → SameLow reader number
     → GivesBack payloads (read (file_with reader number) file_len (length log) None (records_after number log payloads))
@@ -171,9 +186,9 @@ GivesBack-after reader number [] log file_len same =
     (file_len, ap (λ marks. parting None (up_to_end file_len marks)) (ahead-none (file_with reader number) (length log)))
 GivesBack-after reader number (payload ∷ payloads) log file_len same =
     let file = file_with reader number in
-    let next = log ++ record_bytes number (length log) payload in
+    let next = log ++ written_record number (length log) payload in
     let is = record_read reader number (length log) payload (records_after number next payloads) file_len same in
-    let len : length log + length (record_bytes number (length log) payload) ≡ length next = sym (length-append log (record_bytes number (length log) payload)) in (
+    let len : length log + length (written_record number (length log) payload) ≡ length next = sym (length-append log (written_record number (length log) payload)) in (
       length log + length (padding number (length log)),
       read file file_len (length next) None (records_after number next payloads),
       is ∙ ap (λ p. rec payload (length log + length (padding number (length log))) ∷ read file file_len p None (records_after number next payloads)) len,
@@ -188,36 +203,31 @@ record Begins (number : Option ℕ) (bytes : List ℕ) : Type 0 where
   short : written_header_len number + length part ≤ 32768
   is : bytes ≡ fragment_bytes number (part_type true ends) part ++ more
 
-parts_begin_more : (number : Option ℕ) (n : ℕ) (payload rest : List ℕ) → length payload ≤ n → payload_room number 0 < length payload → Begins number (parts_bytes number n true 0 payload ++ rest)
-parts_begin_more number zero payload rest enough longer = absurd (omega arith)
-parts_begin_more number (suc n) payload rest enough longer = record {
-  ends = false;
-  part = take (payload_room number 0) payload;
-  more = parts_bytes number n false (0 + written_header_len number + payload_room number 0) (drop (payload_room number 0) payload) ++ rest;
-  short = let header = header_len-range number in omega (arith, length-take (payload_room number 0) payload, room_is number 0, header.1);
-  is = ap (λ bytes. bytes ++ rest) (parts_bytes-more number n true 0 payload longer)
-      ∙ append_assoc (fragment_bytes number (part_type true false) (take (payload_room number 0) payload)) _ rest;
-}
-
-parts_begin : (number : Option ℕ) (n : ℕ) (payload rest : List ℕ) → length payload ≤ n → Begins number (parts_bytes number n true 0 payload ++ rest)
-parts_begin number n payload rest enough = elim (cases_lt (payload_room number 0) (length payload)) [
-  | inr fits ↦ record {
-    ends = true;
-    part = payload;
-    more = rest;
-    short = let header = header_len-range number in omega (arith, room_is number 0, header.1);
-    is = ap (λ bytes. bytes ++ rest) (parts_bytes-last number n true 0 payload fits);
-  }
-  | inl longer ↦ parts_begin_more number n payload rest enough longer
-]
-
-record_begins : (number : Option ℕ) (payload rest : List ℕ) → Begins number (record_bytes number 0 payload ++ rest)
-unfolding record_bytes
+record_begins : (number : Option ℕ) (payload rest : List ℕ) → Begins number (written_record number 0 payload ++ rest)
+unfolding left_fragments
 record_begins number payload rest =
     let header = header_len-range number in
+    let room = payload_room number 0 in
     let none = padding-none number 0 (omega (arith, header.1)) in
-    subst (λ pad. Begins number ((pad ++ parts_bytes number (length payload) true (0 + length pad) payload) ++ rest)) (sym none)
-    (parts_begin number (length payload) payload rest (omega arith))
+    let own : written_record number 0 payload ≡ left_fragments number true 0 payload =
+    sym (padded_record number 0 payload) ∙ (λ i. none i ++ left_fragments number true (0 + length (none i)) payload) in
+    elim (cases_lt room (length payload)) [
+      | inr fits ↦ record {
+        ends = true;
+        part = payload;
+        more = rest;
+        short = omega (arith, room_is number 0, header.1);
+        is = ap (λ bytes. bytes ++ rest) (own ∙ left_fragments-last number true 0 payload fits (λ begins. absurd (false≢true (sym begins))) (λ begins. absurd (false≢true (sym begins))));
+      }
+      | inl longer ↦ record {
+        ends = false;
+        part = take room payload;
+        more = left_fragments number false (0 + written_header_len number + room) (drop room payload) ++ rest;
+        short = omega (arith, length-take room payload, room_is number 0, header.1);
+        is = ap (λ bytes. bytes ++ rest) (own ∙ left_fragments-more number true 0 payload longer (λ begins. absurd (false≢true (sym begins))))
+            ∙ append_assoc (fragment_bytes number (part_type true false) (take room payload)) _ rest;
+      }
+    ]
 
 recyclable_type : (number : Option ℕ) (ends : Bool) → is_recyclable (written_type number (part_type true ends)) ≡ is_some number
 recyclable_type None true = refl
@@ -271,17 +281,17 @@ GivesBack-written reader number (payload ∷ payloads) same =
     (GivesBack-after reader number (payload ∷ payloads) [] (length bytes) same))
 
 -- a record more
-pub written_log-add : (number : Option ℕ) (payloads : List (List ℕ)) (payload log : List ℕ) → log ≡ written_log number payloads → written_log number (payloads ++ payload ∷ []) ≡ log ++ record_bytes number (length log) payload
+pub written_log-add : (number : Option ℕ) (payloads : List (List ℕ)) (payload log : List ℕ) → log ≡ written_log number payloads → written_log number (payloads ++ payload ∷ []) ≡ log ++ written_record number (length log) payload
 unfolding written_log
 written_log-add number payloads payload log is =
-    fold-append (λ log payload. log ++ record_bytes number (length log) payload) [] payloads (payload ∷ [])
-    ∙ ap (λ one. one ++ record_bytes number (length one) payload) (sym is)
+    fold-append (λ log payload. log ++ written_record number (length log) payload) [] payloads (payload ∷ [])
+    ∙ ap (λ one. one ++ written_record number (length one) payload) (sym is)
 
 pub written_log-none : (number : Option ℕ) → [] ≡ written_log number []
 unfolding written_log
 written_log-none number = refl
 
-pub added_log : (result : Result (Unit {0}) Memory) (view self : Writing) (payload new : List ℕ) → view ≡ self → Extends view.bytes (record_bytes view.number (length view.bytes) payload) result new
+pub added_log : (result : Result (Unit {0}) Memory) (view self : Writing) (payload new : List ℕ) → view ≡ self → Extends view.bytes (written_record view.number (length view.bytes) payload) result new
     → OnOk result ((payloads : List (List ℕ)) → self.bytes ≡ written_log self.number payloads → new ≡ written_log self.number (payloads ++ payload ∷ []))
 added_log (Ok done) view self payload new same extends =
     subst (λ (one : Writing). (payloads : List (List ℕ)) → one.bytes ≡ written_log one.number payloads → new ≡ written_log one.number (payloads ++ payload ∷ [])) same

@@ -7,8 +7,8 @@ use Rattle.rk_bytes.specs.declared.model.log.GapWhy.TheVariants.{UnknownType, Mi
 use Rattle.rk_bytes.specs.Model.Numbers.{little_endian, fixed_of}
 use Rattle.rk_bytes.specs.Model.Checksums.{crc32c, mask}
 use Rattle.rk_bytes.specs.Model.LogMarks.{Mark, full, first, middle, last, fault, LogFile, fragment, stored_sum, stored_number, type_of, payload_len, fragment_len, payload_of, summed_part, is_recyclable, has_number, header_len, is_zero_header, is_of_another_life, is_unsupported, unless_recycled, fragment_mark, found}
-use Rattle.rk_bytes.specs.Model.WrittenLogs.{written_header_len, written_type, number_bytes, fragment_bytes, part_type}
-use Rattle.rk_log.specs.Writing.{SameLow}
+use Rattle.rk_bytes.specs.Model.WrittenLogs.{written_header_len, written_type, number_bytes, fragment_bytes}
+use Rattle.rk_log.specs.Writing.{part_type, SameLow}
 use Rattle.rk_log.proofs.FoundLemmas.{found_by, fragment_found_by, summed_part-range}
 use Rattle.rk_log.proofs.WriteLemmas.{length-fragment_bytes, header_len-range}
 

@@ -1,8 +1,7 @@
-ghost use Rattle.std.specs.Prelude.{◌≡◌, ◌≤◌, ◌-◌, ◌%◌, ◌<◌, ℕ, List, [], ◌∷◌, ◌++◌, true, length, OnOk, OnErr};
-ghost use Rattle.rk_bytes.specs.Model.LogMarks.{block_len};
+ghost use Rattle.std.specs.Prelude.{◌≡◌, ◌≤◌, ◌-◌, ◌%◌, ◌<◌, ℕ, List, [], ◌∷◌, ◌++◌, length, OnOk, OnErr};
 ghost use Rattle.rk_bytes.specs.Model.LogItems.{log_items};
-ghost use Rattle.rk_bytes.specs.Model.WrittenLogs.{written_header_len, part_type, parts_bytes, padding, record_bytes, written_log};
-ghost use Rattle.rk_log.specs.Writing.{Extends, SameLow, GivesBack};
+ghost use Rattle.rk_bytes.specs.Model.WrittenLogs.{written_header_len, record_fragments, record_pieces, left_in_block, written_record, written_log};
+ghost use Rattle.rk_log.specs.Writing.{Extends, part_type, padding, SameLow, GivesBack};
 
 use crate::block::BLOCK_LEN;
 use crate::header::{HEADER_LEN, NUMBERED_HEADER_LEN};
@@ -44,7 +43,7 @@ impl LogWriter {
 
     /// Puts a record at the end, or where memory runs out changes nothing.
     pub fn add(&mut self, payload: &[u8]) -> Result<(), Memory>
-        ensures ok { OnOk result (self.new ≡ record self.old { bytes = self.old.bytes ++ record_bytes self.old.number (length self.old.bytes) payload.now }) }
+        ensures ok { OnOk result (self.new ≡ record self.old { bytes = self.old.bytes ++ written_record self.old.number (length self.old.bytes) payload.now }) }
         ensures log { OnOk result ((payloads : List (List ℕ)) → self.old.bytes ≡ written_log self.old.number payloads → self.new.bytes ≡ written_log self.old.number (payloads ++ payload.now ∷ [])) }
         ensures err { OnErr result (self.new ≡ self.old) }
     {
@@ -91,7 +90,7 @@ fn part_type(begins: bool, ends: bool) -> u8
 
 /// Puts a record at the end of the log.
 fn write_record(out: &mut Vec<u8>, number: Option<u64>, payload: &[u8]) -> Result<(), Memory>
-    ensures { Extends out.old.items (record_bytes number (length out.old.items) payload.now) result out.new.items }
+    ensures { Extends out.old.items (written_record number (length out.old.items) payload.now) result out.new.items }
 {
     fill_block(out, number)?;
     write_parts(out, number, payload)
@@ -111,8 +110,8 @@ fn fill_block(out: &mut Vec<u8>, number: Option<u64>) -> Result<(), Memory>
 
 /// Puts the fragments of a record at the end of the log, where a header has place.
 fn write_parts(out: &mut Vec<u8>, number: Option<u64>, payload: &[u8]) -> Result<(), Memory>
-    requires { written_header_len number ≤ block_len - length out.old.items % block_len }
-    ensures { Extends out.old.items (parts_bytes number (length payload.now) true (length out.old.items) payload.now) result out.new.items }
+    requires { written_header_len number ≤ left_in_block (length out.old.items) }
+    ensures { Extends out.old.items (record_fragments number (record_pieces number (left_in_block (length out.old.items)) payload.now)) result out.new.items }
 {
     let mut rest = payload;
     let mut begins = true;

@@ -11,7 +11,7 @@ use Rattle.rk_bytes.specs.Model.LogMarks.{block_len}
 use Rattle.rk_bytes.specs.Model.TableFooter.{footer_of, checked_block}
 use Rattle.rk_bytes.specs.Model.TableStatus.{Good, TableFault, property_list, range_list, table_with, table_status}
 use Rattle.rk_bytes.specs.Model.Writers.{batch_bytes, block_bytes, edit_bytes, grouped, run_bytes, table_bytes}
-use Rattle.rk_bytes.specs.Model.WrittenLogs.{fragment_bytes, parts_bytes, record_bytes, written_log}
+use Rattle.rk_bytes.specs.Model.WrittenLogs.{fragment_bytes, record_fragments, record_pieces, written_record, written_log}
 
 table_of_one : drill_table 1
     ≡ (0 ∷ 0x10 ∷ 8 ∷ 0 ∷ 0 ∷ 0 ∷ 0 ∷ 0 ∷ 0 ∷ 0 ∷ 1 ∷ 1 ∷ 1 ∷ []) ++ replicate 10 0 ++ (0x9E ∷ 0x37 ∷ 0x79 ∷
@@ -35,20 +35,20 @@ table_of_one = refl
 torn_log_of_one : drill_torn_log 1
     ≡ 0x13 ∷ 0xC8 ∷ 0xE7 ∷ 0x11 ∷ 0x1F ∷ 0 ∷ 1 ∷ 2 ∷ 0 ∷ 0 ∷ 0 ∷ 0 ∷ 0 ∷ 0 ∷ 0 ∷ 1 ∷ 0 ∷ 0 ∷ 0 ∷ 1 ∷ 8 ∷ 0 ∷
     0 ∷ 0 ∷ 0 ∷ 0 ∷ 0 ∷ 0 ∷ 2 ∷ 8 ∷ 0 ∷ 0 ∷ 0 ∷ 1 ∷ 0x3C ∷ 0x6E ∷ 0xF3 ∷ []
-unfolding drill_torn_log batch_bytes written_log record_bytes block_len pieces parts_bytes fragment_bytes crc32c crc_bytes crc_bits crc_bit
+unfolding drill_torn_log batch_bytes written_log written_record block_len record_pieces pieces record_fragments fragment_bytes crc32c crc_bytes crc_bits crc_bit
 torn_log_of_one = refl
 
 log_of_one : drill_log 1
     ≡ 0xC6 ∷ 0xB1 ∷ 0xC9 ∷ 0x17 ∷ 0x1F ∷ 0 ∷ 1 ∷ 3 ∷ 0 ∷ 0 ∷ 0 ∷ 0 ∷ 0 ∷ 0 ∷ 0 ∷ 1 ∷ 0 ∷ 0 ∷ 0 ∷ 1 ∷ 8 ∷ 0 ∷
     0 ∷ 0 ∷ 0 ∷ 0 ∷ 0 ∷ 0 ∷ 1 ∷ 8 ∷ 0 ∷ 0 ∷ 0 ∷ 1 ∷ 0xDA ∷ 0xA6 ∷ 0x6D ∷ 0x13 ∷ []
-unfolding drill_log batch_bytes written_log record_bytes block_len pieces parts_bytes fragment_bytes crc32c crc_bytes crc_bits crc_bit
+unfolding drill_log batch_bytes written_log written_record block_len record_pieces pieces record_fragments fragment_bytes crc32c crc_bytes crc_bits crc_bit
 log_of_one = refl
 
 manifest_of_one : drill_manifest 1
     ≡ (0x2A ∷ 0x4F ∷ 0x8A ∷ 0x28 ∷ 0x4C ∷ 0 ∷ 1 ∷ 1 ∷ 0x1A ∷ []) ++ codes "leveldb.BytewiseComparator" ++ 2 ∷
     5 ∷ 3 ∷ 7 ∷ 4 ∷ 1 ∷ 0x67 ∷ 0 ∷ 4 ∷ 0xC3 ∷ 3 ∷ 0x10 ∷ 0 ∷ 0 ∷ 0 ∷ 0 ∷ 0 ∷ 0 ∷ 0 ∷ 1 ∷ 1 ∷ 1 ∷ 0 ∷ 0 ∷ 0 ∷
     0 ∷ 0 ∷ 0 ∷ 0x10 ∷ 0 ∷ 0 ∷ 0 ∷ 0 ∷ 0 ∷ 0 ∷ 0 ∷ 1 ∷ 1 ∷ 1 ∷ 0 ∷ 0 ∷ 0 ∷ 0 ∷ 0 ∷ 0 ∷ 1 ∷ 1 ∷ 1 ∷ []
-unfolding drill_manifest drill_table edit_bytes written_log record_bytes block_len pieces parts_bytes fragment_bytes table_bytes block_bytes run_bytes grouped internal_key crc32c crc_bytes crc_bits crc_bit
+unfolding drill_manifest drill_table edit_bytes written_log written_record block_len record_pieces pieces record_fragments fragment_bytes table_bytes block_bytes run_bytes grouped internal_key crc32c crc_bytes crc_bits crc_bit
 manifest_of_one = refl
 
 table_of_two : drill_table 2
@@ -76,7 +76,7 @@ torn_log_of_two : drill_torn_log 2
     0 ∷ 0 ∷ 0 ∷ 0 ∷ 0 ∷ 0 ∷ 3 ∷ 8 ∷ 0 ∷ 0 ∷ 0 ∷ 1 ∷ 0xDA ∷ 0xA6 ∷ 0x6D ∷ 0x13 ∷ 0x79 ∷ 0x78 ∷ 0x79 ∷ 0x29 ∷
     0x1F ∷ 0 ∷ 1 ∷ 4 ∷ 0 ∷ 0 ∷ 0 ∷ 0 ∷ 0 ∷ 0 ∷ 0 ∷ 1 ∷ 0 ∷ 0 ∷ 0 ∷ 1 ∷ 8 ∷ 0 ∷ 0 ∷ 0 ∷ 0 ∷ 0 ∷ 0 ∷ 0 ∷ 4 ∷
     8 ∷ 0 ∷ 0 ∷ 0 ∷ 2 ∷ 0x78 ∷ 0xDD ∷ 0xE6 ∷ []
-unfolding drill_torn_log batch_bytes written_log record_bytes block_len pieces parts_bytes fragment_bytes crc32c crc_bytes crc_bits crc_bit
+unfolding drill_torn_log batch_bytes written_log written_record block_len record_pieces pieces record_fragments fragment_bytes crc32c crc_bytes crc_bits crc_bit
 torn_log_of_two = refl
 
 log_of_two : drill_log 2
@@ -84,14 +84,14 @@ log_of_two : drill_log 2
     0 ∷ 0 ∷ 0 ∷ 0 ∷ 0 ∷ 0 ∷ 1 ∷ 8 ∷ 0 ∷ 0 ∷ 0 ∷ 3 ∷ 0x17 ∷ 0x15 ∷ 0x60 ∷ 0x75 ∷ 8 ∷ 0x9E ∷ 0xF5 ∷ 0xB0 ∷
     0x1F ∷ 0 ∷ 1 ∷ 6 ∷ 0 ∷ 0 ∷ 0 ∷ 0 ∷ 0 ∷ 0 ∷ 0 ∷ 1 ∷ 0 ∷ 0 ∷ 0 ∷ 1 ∷ 8 ∷ 0 ∷ 0 ∷ 0 ∷ 0 ∷ 0 ∷ 0 ∷ 0 ∷ 2 ∷
     8 ∷ 0 ∷ 0 ∷ 0 ∷ 3 ∷ 0xB5 ∷ 0x4C ∷ 0xDA ∷ 0x26 ∷ []
-unfolding drill_log batch_bytes written_log record_bytes block_len pieces parts_bytes fragment_bytes crc32c crc_bytes crc_bits crc_bit
+unfolding drill_log batch_bytes written_log written_record block_len record_pieces pieces record_fragments fragment_bytes crc32c crc_bytes crc_bits crc_bit
 log_of_two = refl
 
 manifest_of_two : drill_manifest 2
     ≡ (0xEF ∷ 0x5D ∷ 0x5C ∷ 0xD3 ∷ 0x4C ∷ 0 ∷ 1 ∷ 1 ∷ 0x1A ∷ []) ++ codes "leveldb.BytewiseComparator" ++ 2 ∷
     5 ∷ 3 ∷ 7 ∷ 4 ∷ 2 ∷ 0x67 ∷ 0 ∷ 4 ∷ 0xD7 ∷ 3 ∷ 0x10 ∷ 0 ∷ 0 ∷ 0 ∷ 0 ∷ 0 ∷ 0 ∷ 0 ∷ 1 ∷ 1 ∷ 1 ∷ 0 ∷ 0 ∷ 0 ∷
     0 ∷ 0 ∷ 0 ∷ 0x10 ∷ 0 ∷ 0 ∷ 0 ∷ 0 ∷ 0 ∷ 0 ∷ 0 ∷ 2 ∷ 1 ∷ 2 ∷ 0 ∷ 0 ∷ 0 ∷ 0 ∷ 0 ∷ 0 ∷ 1 ∷ 2 ∷ 1 ∷ []
-unfolding drill_manifest drill_table edit_bytes written_log record_bytes block_len pieces parts_bytes fragment_bytes table_bytes block_bytes run_bytes grouped internal_key crc32c crc_bytes crc_bits crc_bit
+unfolding drill_manifest drill_table edit_bytes written_log written_record block_len record_pieces pieces record_fragments fragment_bytes table_bytes block_bytes run_bytes grouped internal_key crc32c crc_bytes crc_bits crc_bit
 manifest_of_two = refl
 
 names : map (λ file. file.0) (drill_files 1)

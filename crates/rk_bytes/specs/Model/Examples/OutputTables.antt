@@ -4,7 +4,7 @@ use Rattle.std.specs.Prelude.{◌≡◌, ℕ, true, false, List, [], ◌∷◌, 
 use Rattle.rk_bytes.specs.declared.model.key.Kind.{Kind}
 use Rattle.rk_bytes.specs.declared.model.key.Kind.TheVariants.{Value, Deletion}
 use Rattle.rk_bytes.specs.declared.model.key.Record.{Record}
-use Rattle.rk_bytes.specs.Model.WrittenLogs.{fragment_bytes, parts_bytes, record_bytes, written_log}
+use Rattle.rk_bytes.specs.Model.WrittenLogs.{fragment_bytes, later_fragments, record_fragments, record_pieces, written_record, written_log}
 use Rattle.rk_bytes.specs.Model.Writers.{TableContents, batch_bytes, grouped, run_bytes, block_bytes, table_bytes, edit_bytes}
 use Rattle.rk_bytes.specs.Model.Drill.{drill_table, drill_manifest, drill_torn_log, drill_log}
 use Rattle.rk_bytes.specs.Model.Output.{refused}
@@ -90,7 +90,7 @@ other_table = record {
 
 -- all that tables are written by, and the directory of a drill
 unfoldable written_by : Unit {0}
-unfolding batch_bytes grouped run_bytes block_bytes table_bytes edit_bytes fragment_bytes parts_bytes record_bytes written_log
+unfolding batch_bytes grouped run_bytes block_bytes table_bytes edit_bytes fragment_bytes later_fragments record_fragments record_pieces written_record written_log
 written_by = tt
 
 unfoldable drilled : Unit {0}

@@ -7,7 +7,7 @@ use Rattle.rk_bytes.specs.Model.Checksums.{crc_bit, crc_bits, crc_bytes, crc32c,
 use Rattle.rk_bytes.specs.Model.InternalKey.{internal_key}
 use Rattle.rk_bytes.specs.Model.LogMarks.{block_len}
 use Rattle.rk_bytes.specs.Model.VersionEdit.{NewFile}
-use Rattle.rk_bytes.specs.Model.WrittenLogs.{fragment_bytes, parts_bytes, record_bytes, written_log}
+use Rattle.rk_bytes.specs.Model.WrittenLogs.{fragment_bytes, record_fragments, record_pieces, written_record, written_log}
 use Rattle.rk_bytes.specs.Model.Writers.{RepairedFamily, grouped, run_bytes, block_bytes, table_bytes, edit_bytes, repair_manifest, added_table, fresh_numbers}
 
 -- the internal key of a put of `a` at sequence number 1
@@ -27,7 +27,7 @@ default_family files = record { id = 0; name = codes "default"; files = files }
 of_an_empty_repair : repair_manifest (record { log_number = 3; next_file = 4; last_sequence = 0; families = default_family [] ∷ [] })
     ≡ (0x3E ∷ 0xA7 ∷ 0x14 ∷ 0xD9 ∷ 0x25 ∷ 0 ∷ 1 ∷ 1 ∷ 0x1A ∷ []) ++ codes "leveldb.BytewiseComparator" ++ 2 ∷
     3 ∷ 3 ∷ 4 ∷ 4 ∷ 0 ∷ 0xCB ∷ 1 ∷ 0 ∷ []
-unfolding repair_manifest default_family edit_bytes written_log record_bytes block_len pieces parts_bytes fragment_bytes crc32c crc_bytes crc_bits crc_bit
+unfolding repair_manifest default_family edit_bytes written_log written_record block_len record_pieces pieces record_fragments fragment_bytes crc32c crc_bytes crc_bits crc_bit
 of_an_empty_repair = refl
 
 of_three_families : repair_manifest (record { log_number = 11; next_file = 12; last_sequence = 7; families = default_family (listed 4 1000 ∷ listed 8 1000 ∷ []) ∷ record { id = 2; name = codes "f"; files = listed 5 1000 ∷ [] } ∷ record { id = 3; name = codes "g"; files = [] } ∷ [] })
@@ -40,7 +40,7 @@ of_three_families : repair_manifest (record { log_number = 11; next_file = 12; l
     2 ∷ 0x67 ∷ 0 ∷ 5 ∷ 0xE8 ∷ 7 ∷ 9 ∷ 0x61 ∷ 1 ∷ 1 ∷ 0 ∷ 0 ∷ 0 ∷ 0 ∷ 0 ∷ 0 ∷ 9 ∷ 0x61 ∷ 1 ∷ 1 ∷ 0 ∷ 0 ∷ 0 ∷
     0 ∷ 0 ∷ 0 ∷ 1 ∷ 1 ∷ 1 ∷ 0x80 ∷ 0x20 ∷ 0x76 ∷ 0x32 ∷ 0x25 ∷ 0 ∷ 1 ∷ 0xC8 ∷ 1 ∷ 3 ∷ 0xC9 ∷ 1 ∷ 1 ∷ 0x67 ∷
     1 ∷ 0x1A ∷ []) ++ codes "leveldb.BytewiseComparator" ++ 2 ∷ 0x0B ∷ []
-unfolding repair_manifest default_family listed put_a internal_key edit_bytes written_log record_bytes block_len pieces parts_bytes fragment_bytes crc32c crc_bytes crc_bits crc_bit
+unfolding repair_manifest default_family listed put_a internal_key edit_bytes written_log written_record block_len record_pieces pieces record_fragments fragment_bytes crc32c crc_bytes crc_bits crc_bit
 of_three_families = refl
 
 -- the internal key of a put of `b` at sequence number 2
@@ -73,7 +73,7 @@ with_the_added_table : repair_manifest (record { log_number = 11; next_file = 12
     0x0B ∷ 3 ∷ 0x0C ∷ 4 ∷ 2 ∷ 0xCB ∷ 1 ∷ 0 ∷ 0x67 ∷ 0 ∷ 4 ∷ 0xAE ∷ 3 ∷ 9 ∷ 0x61 ∷ 1 ∷ 1 ∷ 0 ∷ 0 ∷ 0 ∷ 0 ∷
     0 ∷ 0 ∷ 9 ∷ 0x61 ∷ 1 ∷ 1 ∷ 0 ∷ 0 ∷ 0 ∷ 0 ∷ 0 ∷ 0 ∷ 1 ∷ 1 ∷ 1 ∷ 0x67 ∷ 0 ∷ 8 ∷ 0xEC ∷ 3 ∷ 9 ∷ 0x62 ∷ 1 ∷
     2 ∷ 0 ∷ 0 ∷ 0 ∷ 0 ∷ 0 ∷ 0 ∷ 9 ∷ 0x62 ∷ 1 ∷ 2 ∷ 0 ∷ 0 ∷ 0 ∷ 0 ∷ 0 ∷ 0 ∷ 2 ∷ 2 ∷ 1 ∷ []
-unfolding repair_manifest default_family listed put_a put_b internal_key edit_bytes written_log record_bytes block_len pieces parts_bytes fragment_bytes crc32c crc_bytes crc_bits crc_bit
+unfolding repair_manifest default_family listed put_a put_b internal_key edit_bytes written_log written_record block_len record_pieces pieces record_fragments fragment_bytes crc32c crc_bytes crc_bits crc_bit
 with_the_added_table = refl
 
 -- a record of the key `a`

@@ -1,7 +1,7 @@
 use Rattle.std.proofs.Common.{◌≡◌, ◌-◌, ◌%◌, ◌≤◌, ◌++◌, length, take, sym, ap, ◌∙◌, arith}
 use Rattle.std.specs.Prelude.{replicate}
 use Rattle.std.proofs.lemmas.List.{take-replicate, append-nil}
-use Rattle.rk_bytes.specs.Model.WrittenLogs.{padding}
+use Rattle.rk_log.specs.Writing.{padding}
 use Rattle.rk_log.proofs.WriteLemmas.{header_len-range, padding-some, padding-none, Extends-append}
 use Rattle.rk_log.proofs.writer.fill_block.Goals as goal
 
