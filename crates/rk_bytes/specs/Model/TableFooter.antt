@@ -15,7 +15,7 @@ use Rattle.rk_bytes.specs.Model.Checksums.{crc_bit, crc_bits, crc_bytes, crc32c,
 use Rattle.rk_bytes.specs.Model.BlockEntries.{with_fault, handle_at}
 
 -- the kind of checksum with this number
-abbrev sum_kind : ℕ → Result SumKind FooterFault
+abbrev pub sum_kind : ℕ → Result SumKind FooterFault
 sum_kind n =
     if n == 0 then Ok NoSum
     else (if n == 1 then Ok Crc32c
@@ -23,7 +23,7 @@ sum_kind n =
     else (if n == 3 then Ok Xxh64 else Err (UnsupportedChecksum n))))
 
 -- the magic number of a legacy footer
-abbrev legacy_magic : ℕ
+abbrev pub legacy_magic : ℕ
 legacy_magic = 0xdb4775248b80fb57
 
 -- the magic number of a newer footer
@@ -43,20 +43,20 @@ abbrev pub footer_start : List ℕ → ℕ
 footer_start table = length table - footer_len table
 
 -- The metaindex's handle and the index's, within 40 bytes. What follows them isn't looked at.
-abbrev footer_handles : List ℕ → Result (Handle × Handle) FooterFault
+abbrev pub footer_handles : List ℕ → Result (Handle × Handle) FooterFault
 footer_handles bytes = with_fault (λ fault. BadHandle) (do
   metaindex ← handle_at (take 40 bytes)
   index ← handle_at metaindex.1
   Ok (metaindex.0, index.0))
 
 -- a footer's parts, where its version and its checksum kind have passed
-abbrev footer_with : ℕ → SumKind → ℕ → List ℕ → Result Footer FooterFault
+abbrev pub footer_with : ℕ → SumKind → ℕ → List ℕ → Result Footer FooterFault
 footer_with version sum start bytes = do
   handles ← footer_handles bytes
   Ok (record { version = version; sum = sum; metaindex = handles.0; index = handles.1; start = start })
 
 -- The bytes of a newer footer are the checksum kind, 40 bytes of handles, the version and the magic number.
-abbrev newer_footer : ℕ → List ℕ → Result Footer FooterFault
+abbrev pub newer_footer : ℕ → List ℕ → Result Footer FooterFault
 newer_footer start bytes = let version = little_endian (take 4 (drop 41 bytes)) in
     if version == 0 || nat_lt 5 version then Err (UnsupportedVersion version)
     else do
@@ -72,7 +72,7 @@ footer_of table = let start = footer_start table in
     else Err BadMagic))
 
 -- The stored sum is that of the block and its type byte. Where blocks aren't summed it isn't looked at.
-abbrev has_sum : SumKind → ℕ → List ℕ → ℕ → Bool
+abbrev pub has_sum : SumKind → ℕ → List ℕ → ℕ → Bool
 has_sum NoSum stored block type_byte = true
 has_sum sum stored block type_byte = stored == block_sum sum block type_byte
 

@@ -111,7 +111,7 @@ abbrev pub value_named : List ℕ → List Property → Option (List ℕ)
 value_named name properties = option_map (λ property. property.value) (find (λ property. bytes_eq property.name name) properties)
 
 -- the number that a value spells in this form
-abbrev number_in : (List ℕ → Read ℕ) → Option (List ℕ) → Option ℕ
+abbrev pub number_in : (List ℕ → Read ℕ) → Option (List ℕ) → Option ℕ
 number_in read None = Some 0
 number_in read (Some value) = whole (read value)
 
@@ -287,7 +287,7 @@ abbrev pub end_key : RangeDel → List ℕ
 end_key range = internal_key range.end top_sequence RangeDeletion
 
 -- the lesser of two internal keys
-abbrev lesser : List ℕ → List ℕ → List ℕ
+abbrev pub lesser : List ℕ → List ℕ → List ℕ
 lesser a b = if is_gt (key_cmp a b) then b else a
 
 -- the greater of two internal keys
