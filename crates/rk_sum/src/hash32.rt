@@ -1,11 +1,13 @@
-//! XXH32 with seed 0 (the xxHash specification). Whole stripes of sixteen bytes go into four sums, one
-//! for each word of a stripe; what is left goes into the hash by words and then by bytes.
+//! XXH32 with seed 0 (the xxHash specification; RocksDB's util/xxhash.h). Whole stripes of sixteen bytes
+//! go into four sums, one for each word of a stripe; what is left goes into the hash by words and then
+//! by bytes.
 ghost use Rattle.std.specs.Prelude.{◌≡◌, ◌+◌, ◌%◌, ◌^◌, ◌≤◌, nat_le, List, [], ◌∷◌, ◌++◌, fold, if◌then◌else◌};
 ghost use Rattle.std.specs.Int.{w32, rotate_left};
 ghost use Rattle.rk_bytes.specs.Model.Checksums.{lane_at, xxh32_round, xxh32_sum, xxh32_with_word, xxh32_with_byte, xxh32_with_rest, xxh32_mixed, xxh32};
 
 use crate::words::{with_last, word};
 
+// The primes of the specification.
 const PRIME_1: u32 = 0x9E37_79B1;
 
 const PRIME_2: u32 = 0x85EB_CA77;

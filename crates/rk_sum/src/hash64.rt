@@ -1,10 +1,12 @@
-//! XXH64 with seed 0 (the xxHash specification). Whole stripes of 32 bytes go into four sums, one for
-//! each long word of a stripe; what is left goes into the hash by long words, by a word and by bytes.
+//! XXH64 with seed 0 (the xxHash specification; RocksDB's util/xxhash.h). Whole stripes of 32 bytes go
+//! into four sums, one for each long word of a stripe; what is left goes into the hash by long words, by
+//! a word and by bytes.
 ghost use Rattle.std.specs.Prelude.{◌≡◌, ◌+◌, ◌%◌, ◌^◌, ◌≤◌, nat_le, List, [], ◌∷◌, ◌++◌, fold, if◌then◌else◌};
 ghost use Rattle.rk_bytes.specs.Model.Checksums.{lane_at, xxh64_round, xxh64_sum, xxh64_of_sums, xxh64_with_sum, xxh64_with_lane, xxh64_with_word, xxh64_with_byte, xxh64_with_rest, xxh64_mixed, xxh64};
 
 use crate::words::{long_word, with_last, word};
 
+// The primes of the specification.
 const PRIME_1: u64 = 0x9E37_79B1_85EB_CA87;
 
 const PRIME_2: u64 = 0xC2B2_AE3D_27D4_EB4F;
