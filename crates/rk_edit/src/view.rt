@@ -1,4 +1,4 @@
-ghost use Rattle.std.specs.Prelude.{◌≡◌, ◌<◌, ◌∷◌, [], List, length, Ok, IfSome, IfNone};
+ghost use Rattle.std.specs.Prelude.{◌≡◌, ◌∷◌, [], List, length, IfSome, IfNone};
 ghost use Rattle.rk_bytes.specs.Model.Numbers.{reads_or, varint32_at};
 ghost use Rattle.rk_bytes.specs.Model.VersionEdit.{Field as StatedField, field_at, edit_fields};
 ghost use Rattle.rk_bytes.specs.Reading.{IsFurther, rest_of};
