@@ -3,9 +3,10 @@ use Rattle.std.proofs.Common.{◌≡◌, ℕ, zero, suc, ◌+◌, ◌*◌, ◌/�
 use Rattle.std.specs.Prelude.{max, map}
 use Rattle.std.specs.List.{All}
 use Rattle.std.specs.List.Sorted.{IsPermutation}
-use Rattle.std.proofs.lemmas.List.{map-append, drop_more, take-take, take_at, drop_at, drop-take, get_or_push}
+use Rattle.std.proofs.lemmas.List.{map-append, append-nil, drop_all, take_all, take_more, drop_more, take-take, take_at, drop_at, drop-take, get_or_push}
 use Rattle.std.proofs.lemmas.List.Elements.{All-nil, All-map, All-head, All-tail}
-use Rattle.std.proofs.lemmas.List.Sorted.{IsPermutation-refl, IsPermutation-append_left, IsPermutation-map, IsPermutation-trans}
+use Rattle.std.proofs.lemmas.List.Sorted.{IsPermutation-refl, IsPermutation-append_left, IsPermutation-append_right, IsPermutation-map, IsPermutation-trans}
+use borrow.Rule.Slice.PartMut.{put_mid}
 use Rattle.rk_bytes.specs.declared.model.key.Record.{Record}
 use Rattle.rk_bytes.specs.declared.model.view.Tomb.{Tomb}
 use Rattle.rk_tomb.specs.declared.index.Node.{Node}
@@ -64,15 +65,37 @@ IsIndex-more tombs tomb old new node at index placed moved runs =
     let more : List Tomb = tombs ++ tomb ∷ [] in
     let own : tomb_at more node.place ≡ tomb = get_or_push tombs tomb _ node.place (sym at) in
     let all : tombs_of more (old ++ node ∷ []) ≡ tombs_of tombs old ++ tomb ∷ [] =
-      tombs_of-append more old (node ∷ []) ∙ (λ i. tombs_of-more tombs tomb old index.placed i ++ own i ∷ []) in
+    tombs_of-append more old (node ∷ []) ∙ (λ i. tombs_of-more tombs tomb old index.placed i ++ own i ∷ []) in
     record {
       placed = placed;
       whole =
-        IsPermutation-trans more (tombs_of more (old ++ node ∷ [])) (tombs_of more new)
-        (subst (λ ys. IsPermutation more ys) (sym all) (IsPermutation-append_left (tomb ∷ []) tombs (tombs_of tombs old) index.whole))
-        (IsPermutation-map (tomb_at more) (places (old ++ node ∷ [])) (places new) moved);
+          IsPermutation-trans more (tombs_of more (old ++ node ∷ [])) (tombs_of more new)
+          (subst (λ ys. IsPermutation more ys) (sym all) (IsPermutation-append_left (tomb ∷ []) tombs (tombs_of tombs old) index.whole))
+          (IsPermutation-map (tomb_at more) (places (old ++ node ∷ [])) (places new) moved);
       runs = runs;
     }
+
+-- a list of range deletions, and its last one
+pub last_tomb : (tombs : List Tomb) → 0 < length tombs → take (length tombs - 1) tombs ++ tomb_at tombs (length tombs - 1) ∷ [] ≡ tombs
+last_tomb tombs some =
+    let lt : length tombs - 1 < length tombs = omega arith in
+    let all : length tombs ≤ length tombs - 1 + 1 = omega arith in
+    sym (take_more tombs (length tombs - 1) _ lt) ∙ take_all (length tombs - 1 + 1) tombs all
+
+-- nodes after a front are written, up to their end
+
+pub rest_written : (nodes rest : List Node) (first : ℕ) → put_mid first (length nodes - first) nodes rest ≡ take first nodes ++ rest
+rest_written nodes rest first =
+    let none : drop (length nodes - first) (drop first nodes) ≡ [] = drop_all (length nodes - first) (drop first nodes) (omega (arith, length-drop first nodes)) in
+    ap (λ more. take first nodes ++ (rest ++ more)) none ∙ ap (λ more. take first nodes ++ more) (append-nil rest)
+
+pub rest_moved : (nodes rest : List Node) (first : ℕ) → IsPermutation (places (drop first nodes)) (places rest) → IsPermutation (places nodes) (places (put_mid first (length nodes - first) nodes rest))
+rest_moved nodes rest first moved =
+    let front : List ℕ = places (take first nodes) in
+    let old : places nodes ≡ front ++ places (drop first nodes) = ap places (sym (take-append-drop first nodes)) ∙ map-append (λ (node : Node). node.place) (take first nodes) (drop first nodes) in
+    let new : places (put_mid first (length nodes - first) nodes rest) ≡ front ++ places rest = ap places (rest_written nodes rest first) ∙ map-append (λ (node : Node). node.place) (take first nodes) rest in
+    subst (λ xs. IsPermutation xs (places (put_mid first (length nodes - first) nodes rest))) (sym old)
+    (subst (λ ys. IsPermutation (front ++ places (drop first nodes)) ys) (sym new) (IsPermutation-append_right front (places (drop first nodes)) (places rest) moved))
 
 -- the first run stays where one node more doesn't fill it
 
@@ -112,3 +135,16 @@ module _ (tombs : List Tomb) (nodes : List Node) (few : run_len (length nodes) <
       AreRuns-made tombs (take len nodes ++ rest)
       (subst (λ run. IsRun tombs run) (sym (ap (λ n. take (run_len n) (take len nodes ++ rest)) all ∙ take_at (take len nodes) rest len front)) first)
       (subst (λ run. AreRuns tombs run) (sym (ap (λ n. drop (run_len n) (take len nodes ++ rest)) all ∙ drop_at (take len nodes) rest len front)) after)
+
+-- the same, as code writes them
+module _ (tombs : List Tomb) (nodes : List Node) (first : ℕ) (is : first ≡ run_len (length nodes)) (few : first < length nodes) (runs : AreRuns tombs (take (length nodes - 1) nodes)) where
+  few_nodes : run_len (length nodes) < length nodes
+  few_nodes = omega arith
+
+  pub rest_of_runs : AreRuns tombs (take (length (drop first nodes) - 1) (drop first nodes))
+  rest_of_runs = subst (λ n. AreRuns tombs (take (length (drop n nodes) - 1) (drop n nodes))) (sym is) (rest_stays tombs nodes few_nodes runs)
+
+  pub runs_with_rest : (rest : List Node) → length rest ≡ length nodes - first → AreRuns tombs rest → AreRuns tombs (put_mid first (length nodes - first) nodes rest)
+  runs_with_rest rest same after =
+      subst (λ n. length rest ≡ length nodes - n → AreRuns tombs (put_mid n (length nodes - n) nodes rest)) (sym is)
+      (λ left. subst (λ all. AreRuns tombs all) (sym (rest_written nodes rest (run_len (length nodes)))) (AreRuns-joined tombs nodes few_nodes rest left (first_stays tombs nodes few_nodes runs) after)) same

@@ -9,6 +9,7 @@ use Rattle.std.proofs.lemmas.Grind.{fold-append}
 use Rattle.std.proofs.lemmas.List.{map-append}
 use Rattle.std.proofs.lemmas.List.Elements.{All-nil, All-cons, All-head, All-tail}
 use Rattle.std.proofs.lemmas.List.Sorted.{All-permutation, IsPermutation-sym}
+use Rattle.rk_bytes.specs.declared.model.key.Kind.{Kind}
 use Rattle.rk_bytes.specs.declared.model.key.Record.{Record}
 use Rattle.rk_bytes.specs.declared.model.view.Tomb.{Tomb}
 use Rattle.rk_bytes.specs.Model.KeyView.{covers, covering}
@@ -120,3 +121,15 @@ reduce-above floor (n ∷ ns) all =
 -- what covers a record is the newest range deletion, if that is newer than the record
 pub covering-newest : (r : Record) (tombs : List Tomb) → covering tombs r ≡ above r.sequence (newest r r.sequence tombs)
 covering-newest r tombs = reduce-above r.sequence (sequences tombs r) (all_newer r tombs) ∙ ap (above r.sequence) (sym (newest-sequences r r.sequence tombs))
+
+-- of a record its value doesn't count
+pub covering-value : (tombs : List Tomb) (family : ℕ) (key : List ℕ) (sequence : ℕ) (kind : Kind) (value : List ℕ)
+    → covering tombs (record { family = family; key = key; sequence = sequence; kind = kind; value = value }) ≡ covering tombs (record { family = family; key = key; sequence = sequence; kind = kind; value = [] })
+unfolding covers
+covering-value tombs family key sequence kind value = refl
+
+pub above-yes : (floor n : ℕ) → floor < n → above floor n ≡ Some n
+above-yes floor n lt = ap (λ b. cond b (Some n) None) (lt-ltb floor n lt)
+
+pub above-no : (floor n : ℕ) → n ≤ floor → above floor n ≡ None
+above-no floor n le = ap (λ b. cond b (Some n) None) (le-ltb floor n le)

@@ -90,11 +90,11 @@ module _ (tombs : List Tomb) (tomb : Tomb) where
   IsSpanned-more : (nodes : List Node) → All (IsPlaced (length tombs)) nodes → IsSpanned tombs nodes → IsSpanned (tombs ++ tomb ∷ []) nodes
   unfolding IsSpanned
   IsSpanned-more nodes placed h = λ d k e lt.
-    let middle : Node = get_or nodes (length nodes / 2) d in
-    let node : Node = get_or nodes k e in
-    let in_list : length nodes / 2 < length nodes = omega arith in
-    subst (λ other. IsWithin (tombs ++ tomb ∷ []) middle.span other) (sym (tomb_at-more node.place (placed k e lt).place))
-    (IsWithin-more middle.span (tomb_at tombs node.place) (placed (length nodes / 2) d in_list).span (h d k e lt))
+      let middle : Node = get_or nodes (length nodes / 2) d in
+      let node : Node = get_or nodes k e in
+      let in_list : length nodes / 2 < length nodes = omega arith in
+      subst (λ other. IsWithin (tombs ++ tomb ∷ []) middle.span other) (sym (tomb_at-more node.place (placed k e lt).place))
+      (IsWithin-more middle.span (tomb_at tombs node.place) (placed (length nodes / 2) d in_list).span (h d k e lt))
 
   All-part : (run : List Node) → All (IsPlaced (length tombs)) run → (path : List Bool) → All (IsPlaced (length tombs)) (part path run)
   All-part run placed [] = placed

@@ -23,7 +23,8 @@ AllWithin-part tombs span None nodes none some wider =
     All-same (λ node. IsWithin tombs span (tomb_at tombs node.place)) nodes [] none (All-nil (λ node. IsWithin tombs span (tomb_at tombs node.place)))
 AllWithin-part tombs span (Some own) nodes none some wider = λ k d lt. wider (tomb_at tombs (get_or nodes k d).place) (some k d lt)
 
-length-places : (xs ys : List Node) → places xs ≡ places ys → length xs ≡ length ys
+-- nodes with the same places are as many
+pub length-places : (xs ys : List Node) → places xs ≡ places ys → length xs ≡ length ys
 length-places xs ys same = sym (length-map xs (λ node. node.place)) ∙ ap length same ∙ length-map ys (λ node. node.place)
 
 module _ (run before : List Node) (d : Node) (some : 0 < length run) (before_same : places before ≡ places (take (length run / 2) run)) where
@@ -56,7 +57,7 @@ module _ (run before : List Node) (d : Node) (some : 0 < length run) (before_sam
         let taken : take (m + 1) xs ≡ before ++ y ∷ [] = ap (take (m + 1)) halfway ∙ take_at (before ++ y ∷ []) (drop (m + 1) run) (m + 1) front_length in
         let none : drop (length xs - (m + 1)) (drop (m + 1) xs) ≡ [] = drop_all (length xs - (m + 1)) (drop (m + 1) xs) (omega (arith, length-drop (m + 1) xs)) in
         let joined : take (m + 1) xs ++ (after ++ drop (length xs - (m + 1)) (drop (m + 1) xs)) ≡ before ++ y ∷ after =
-          (λ i. taken i ++ (after ++ none i)) ∙ ap (λ zs. (before ++ y ∷ []) ++ zs) (append-nil after) ∙ append_assoc before (y ∷ []) after in
+        (λ i. taken i ++ (after ++ none i)) ∙ ap (λ zs. (before ++ y ∷ []) ++ zs) (append-nil after) ∙ append_assoc before (y ∷ []) after in
         ap (λ zs. set zs m node) joined ∙ set_at before y after node m before_length
 
     after_length : length after ≡ length run - (length run / 2 + 1)
@@ -99,8 +100,8 @@ module _ (tombs : List Tomb) (run before after : List Node) (node d : Node) (som
   Summarized-written before_same after_same own before_placed after_placed node_placed before_run after_run before_within after_within node_within =
       let all : List Node = before ++ node ∷ after in
       let within : AllWithin tombs node.span all =
-        All-append (λ (other : Node). IsWithin tombs node.span (tomb_at tombs other.place)) before (node ∷ after) before_within
-        (All-cons (λ (other : Node). IsWithin tombs node.span (tomb_at tombs other.place)) node after node_within after_within) in
+      All-append (λ (other : Node). IsWithin tombs node.span (tomb_at tombs other.place)) before (node ∷ after) before_within
+      (All-cons (λ (other : Node). IsWithin tombs node.span (tomb_at tombs other.place)) node after node_within after_within) in
       subst (λ new. Summarized tombs run new node.span) (sym (written run before d some before_same after node after_same)) (record {
         placed = All-append (IsPlaced (length tombs)) before (node ∷ after) before_placed (All-cons (IsPlaced (length tombs)) node after node_placed after_placed);
         same = places-written run before d some before_same after node after_same own;

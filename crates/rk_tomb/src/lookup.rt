@@ -83,7 +83,8 @@ impl Lookup<'_> {
         requires largest { 8 ≤ length cut.now.largest }
         ensures { result ≡ lies_within cut.now.smallest cut.now.largest (internal_key self.now.user.now self.now.sequence self.now.kind) }
     {
-        self.cmp_smallest(cut.smallest.as_slice()).is_le() && self.cmp_largest(cut.largest.as_slice()).is_le()
+        self.cmp_smallest(cut.smallest.as_slice()).is_le()
+            && self.cmp_largest(cut.largest.as_slice()).is_le()
     }
 
     /// How a bound and the record's internal key are ordered.

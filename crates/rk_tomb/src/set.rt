@@ -84,6 +84,10 @@ impl TombSet {
             &lookup,
             sequence,
         );
-        if newest > sequence { Some(newest) } else { None }
+        if newest > sequence {
+            Some(newest)
+        } else {
+            None
+        }
     }
 }

@@ -20,17 +20,19 @@ returns-then-is_missed_by t c =
 pub newest_in-before-requires : goal.newest_in-before-requires
 newest_in-before-requires t c =
     let run : List Node = c.args.run.now in
-    let some : 0 < length run = some_from_test (length run) c.is_empty.result c.is_empty.ensures c.if-is_empty.false in
-    (omega (arith, length-take (length run / 2) run),
-     (c.requires.sequence, (c.requires.bounds, (All-take (IsPlaced (length c.args.tombs.now)) (length run / 2) run c.requires.placed, IsRun-before c.args.tombs.now run c.requires.run))))
+    let some : 0 < length run = some_from_test (length run) c.is_empty.result c.is_empty.ensures c.if-is_empty.false in (
+      omega (arith, length-take (length run / 2) run),
+      (c.requires.sequence, (c.requires.bounds, (All-take (IsPlaced (length c.args.tombs.now)) (length run / 2) run c.requires.placed, IsRun-before c.args.tombs.now run c.requires.run))),
+    )
 
 pub newest_in-requires : goal.newest_in-requires
 newest_in-requires t c =
     let run : List Node = c.args.run.now in
     let some : 0 < length run = some_from_test (length run) c.is_empty.result c.is_empty.ensures c.if-is_empty.false in
-    rw (take_rest run (length run / 2 + 1))
-    (omega (arith, length-drop (length run / 2 + 1) run),
-     (c.requires.sequence, (c.requires.bounds, (All-drop (IsPlaced (length c.args.tombs.now)) (length run / 2 + 1) run c.requires.placed, IsRun-after c.args.tombs.now run c.requires.run))))
+    rw (take_rest run (length run / 2 + 1)) (
+      omega (arith, length-drop (length run / 2 + 1) run),
+      (c.requires.sequence, (c.requires.bounds, (All-drop (IsPlaced (length c.args.tombs.now)) (length run / 2 + 1) run c.requires.placed, IsRun-after c.args.tombs.now run c.requires.run))),
+    )
 
 pub returns : goal.returns
 returns t c =

@@ -28,7 +28,8 @@ loop-rest-preserved c =
     let both : take (run_len (length rest)) rest ++ drop (run_len (length rest)) rest ≡ rest = take-append-drop (run_len (length rest)) rest in
     let step : c.newest_in-newest.result ≡ newest r c.loop-rest.newest (tombs_of tombs (take (run_len (length rest)) rest)) = c.newest_in-newest.ensures ∙ ap (λ run. newest r c.loop-rest.newest (tombs_of tombs run)) front in
     let whole : newest r c.newest_in-newest.result (tombs_of tombs c.split_at.result.1.now) ≡ newest r c.args.floor (tombs_of tombs c.args.nodes.now) =
-      (λ i. newest r (step i) (tombs_of tombs (back i))) ∙ sym (newest-nodes r c.loop-rest.newest tombs (take (run_len (length rest)) rest) (drop (run_len (length rest)) rest)) ∙ ap (λ nodes. newest r c.loop-rest.newest (tombs_of tombs nodes)) both ∙ c.loop-rest.invariant.2 in
-    (subst (λ xs. (k : ℕ) → (d : Node) → k < length xs → IsPlaced (length tombs) (get_or xs k d)) (sym back) (All-drop (IsPlaced (length tombs)) (run_len (length rest)) rest c.loop-rest.invariant.0),
-     subst (λ xs. AreRuns tombs xs) (sym back) (AreRuns-rest tombs rest c.loop-rest.invariant.1),
-     whole)
+    (λ i. newest r (step i) (tombs_of tombs (back i))) ∙ sym (newest-nodes r c.loop-rest.newest tombs (take (run_len (length rest)) rest) (drop (run_len (length rest)) rest)) ∙ ap (λ nodes. newest r c.loop-rest.newest (tombs_of tombs nodes)) both ∙ c.loop-rest.invariant.2 in (
+      subst (λ xs. (k : ℕ) → (d : Node) → k < length xs → IsPlaced (length tombs) (get_or xs k d)) (sym back) (All-drop (IsPlaced (length tombs)) (run_len (length rest)) rest c.loop-rest.invariant.0),
+      subst (λ xs. AreRuns tombs xs) (sym back) (AreRuns-rest tombs rest c.loop-rest.invariant.1),
+      whole,
+    )

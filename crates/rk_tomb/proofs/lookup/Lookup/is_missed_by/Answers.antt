@@ -19,11 +19,11 @@ returns-then-is_before c = λ yes.
     let span = c.args.span.now in
     let r = record_of self in
     elim c.if-span-floor.branch [
-      then-span-floor w ↦ missed_newer r tombs span c.args.floor w.if-span-floor.true
-    | else-span-floor w ↦
-      let first = tomb_at-read tombs span.first w.index-tombs-span.result c.requires.first w.index-tombs-span.is in
-      let above : is_gt (edge_cmp (start_of (tomb_at tombs span.first)) (r.family, r.key)) ≡ true = cc in
-      missed_before r tombs span c.args.floor above
+      | then-span-floor w ↦ missed_newer r tombs span c.args.floor w.if-span-floor.true
+      | else-span-floor w ↦
+          let first = tomb_at-read tombs span.first w.index-tombs-span.result c.requires.first w.index-tombs-span.is in
+          let above : is_gt (edge_cmp (start_of (tomb_at tombs span.first)) (r.family, r.key)) ≡ true = cc in
+          missed_before r tombs span c.args.floor above
     ]
 
 pub returns-else-is_before : goal.returns-else-is_before
