@@ -1,3 +1,4 @@
+pub mod Bounds
 pub mod Index
 pub mod Spans
 pub mod Weights

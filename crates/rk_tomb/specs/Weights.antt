@@ -1,6 +1,5 @@
 -- What range deletions are worth to a record, in numbers: of those that cover it, the newest counts.
-use Rattle.std.specs.Prelude.{ℕ, ◌≤◌, [], List, length, max, fold, if◌then◌else◌}
-use Rattle.std.specs.Option.{ForSome}
+use Rattle.std.specs.Prelude.{ℕ, [], List, max, fold, if◌then◌else◌}
 use Rattle.rk_bytes.specs.declared.model.key.Record.{Record}
 use Rattle.rk_bytes.specs.declared.model.view.Tomb.{Tomb}
 use Rattle.rk_bytes.specs.Model.KeyView.{covers}
@@ -9,10 +8,6 @@ use Rattle.rk_tomb.specs.declared.lookup.Lookup.{Lookup}
 -- the record that is asked about; its value doesn't count
 abbrev pub record_of : Lookup → Record
 record_of lookup = record { family = lookup.family; key = lookup.user.now; sequence = lookup.sequence; kind = lookup.kind; value = [] }
-
--- the bounds that the range deletion is cut to are those of internal keys
-abbrev pub HasWholeBounds : Tomb → Type 0
-HasWholeBounds tomb = ForSome tomb.cut (λ cut. (8 ≤ length cut.smallest) × (8 ≤ length cut.largest))
 
 -- the sequence number of a range deletion that covers the record, and 0 of any other
 unfoldable pub weight : Record → Tomb → ℕ

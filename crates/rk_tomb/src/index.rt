@@ -9,7 +9,8 @@ ghost use Rattle.std.specs.Prelude.{◌≡◌, ◌-◌, ◌<◌, ◌≤◌, leng
 ghost use Rattle.std.specs.List.{All};
 ghost use Rattle.std.specs.List.Sorted.{IsPermutation};
 ghost use Rattle.rk_bytes.specs.declared.model.view.Tomb.{Tomb};
-ghost use Rattle.rk_tomb.specs.Weights.{HasWholeBounds, record_of, newest};
+ghost use Rattle.rk_tomb.specs.Bounds.{HasWholeBounds};
+ghost use Rattle.rk_tomb.specs.Weights.{record_of, newest};
 ghost use Rattle.rk_tomb.specs.Spans.{tomb_at, IsInRange, IsWithin};
 ghost use Rattle.rk_tomb.specs.Index.{places, tombs_of, run_len, IsPlaced, IsRun, AreRuns, IsIndex};
 
@@ -113,7 +114,7 @@ fn summarize(tombs: &[Tomb], run: &mut [Node]) -> Option<Span>
 /// given, if that is greater.
 fn newest_in(tombs: &[Tomb], run: &[Node], lookup: &Lookup<'_>, floor: u64) -> u64
     requires sequence { lookup.now.sequence ≤ TOP }
-    requires bounds { All HasWholeBounds tombs.now }
+    requires bounds { All (λ tomb. HasWholeBounds tomb.cut) tombs.now }
     requires placed { All (IsPlaced (length tombs.now)) run.now }
     requires run { IsRun tombs.now run.now }
     ensures { result ≡ newest (record_of lookup.now) floor (tombs_of tombs.now run.now) }
@@ -134,7 +135,7 @@ fn newest_in(tombs: &[Tomb], run: &[Node], lookup: &Lookup<'_>, floor: u64) -> u
 /// The same of all nodes, run by run.
 pub fn newest_in_runs(tombs: &[Tomb], nodes: &[Node], lookup: &Lookup<'_>, floor: u64) -> u64
     requires sequence { lookup.now.sequence ≤ TOP }
-    requires bounds { All HasWholeBounds tombs.now }
+    requires bounds { All (λ tomb. HasWholeBounds tomb.cut) tombs.now }
     requires placed { All (IsPlaced (length tombs.now)) nodes.now }
     requires runs { AreRuns tombs.now nodes.now }
     ensures { result ≡ newest (record_of lookup.now) floor (tombs_of tombs.now nodes.now) }

@@ -3,7 +3,8 @@ ghost use Rattle.std.specs.Ordering.{is_gt};
 ghost use Rattle.rk_bytes.specs.Model.InternalKey.{packed_of, internal_key, key_cmp};
 ghost use Rattle.rk_bytes.specs.Model.KeyView.{lies_within, covers};
 ghost use Rattle.rk_bytes.specs.declared.model.view.Tomb.{Tomb};
-ghost use Rattle.rk_tomb.specs.Weights.{HasWholeBounds, record_of, weight};
+ghost use Rattle.rk_tomb.specs.Bounds.{HasWholeBounds};
+ghost use Rattle.rk_tomb.specs.Weights.{record_of, weight};
 ghost use Rattle.rk_tomb.specs.Spans.{edge_cmp, IsWithin, IsInRange};
 
 use crate::edge::{Edge, cmp_edges};
@@ -27,7 +28,7 @@ impl Lookup<'_> {
     #[tactic(auto, unfolding(crate::specs::Weights::weight))]
     pub fn newest_of(&self, tomb: &Tomb, floor: u64) -> u64
         requires sequence { self.now.sequence ≤ TOP }
-        requires bounds { HasWholeBounds tomb.now }
+        requires bounds { HasWholeBounds tomb.now.cut }
         ensures { result ≡ max floor (weight (record_of self.now) tomb.now) }
     {
         if self.is_covered_by(tomb) {
@@ -63,7 +64,7 @@ impl Lookup<'_> {
     #[tactic(auto, unfolding(rk_bytes::specs::Model::KeyView::covers))]
     fn is_covered_by(&self, tomb: &Tomb) -> bool
         requires sequence { self.now.sequence ≤ TOP }
-        requires bounds { HasWholeBounds tomb.now }
+        requires bounds { HasWholeBounds tomb.now.cut }
         ensures { result ≡ covers tomb.now (record_of self.now) }
     {
         tomb.family == self.family

@@ -1,6 +1,6 @@
 ghost use Rattle.std.specs.Prelude.{◌≡◌, ◌≤◌, ℕ, List, [], ◌∷◌, ◌++◌, OnOk, OnErr};
 ghost use Rattle.rk_bytes.specs.Model.KeyView.{covering};
-ghost use Rattle.rk_tomb.specs.Weights.{HasWholeBounds};
+ghost use Rattle.rk_tomb.specs.Bounds.{HasWholeBounds};
 
 use crate::Tomb;
 use crate::index::{Node, index_last, newest_in_runs};
@@ -26,12 +26,12 @@ impl Model for TombSet {
 
     ghost Value = { List Tomb };
 
-    ghost use Rattle.rk_tomb.specs.Weights.{HasWholeBounds};
+    ghost use Rattle.rk_tomb.specs.Bounds.{HasWholeBounds};
     ghost use Rattle.rk_tomb.specs.Index.{IsIndex};
 
     ghost view = { λ s. s.tombs.items };
 
-    ghost invariant = { λ s. IsIndex s.tombs.items s.nodes.items × All HasWholeBounds s.tombs.items };
+    ghost invariant = { λ s. IsIndex s.tombs.items s.nodes.items × All (λ tomb. HasWholeBounds tomb.cut) s.tombs.items };
 }
 
 impl TombSet {
@@ -50,7 +50,7 @@ impl TombSet {
     /// bytes. One that ends before it starts covers nothing, and neither does one whose bounds are the wrong
     /// way round. Where memory runs out, it changes nothing and drops the range deletion.
     pub fn add(&mut self, tomb: Tomb) -> Result<(), Memory>
-        requires { HasWholeBounds tomb }
+        requires { HasWholeBounds tomb.cut }
         ensures ok { OnOk result (self.new ≡ self.old ++ tomb ∷ []) }
         ensures err { OnErr result (self.new ≡ self.old) }
     {

@@ -1,5 +1,6 @@
-// What is expected is read off the rule for range deletions: the format's description has the keys' bytes.
-ghost use Rattle.std.specs.Prelude.{◌≡◌, OnOk};
+// What is expected is read off the rule for range deletions.
+ghost use Rattle.std.specs.Prelude.{◌≤◌, length, IfOk};
+ghost use Rattle.rk_tomb.specs.Bounds.{HasWholeBounds};
 
 use super::*;
 use rk_bytes::{Bytes, Memory};
@@ -7,30 +8,39 @@ use rk_ikey::{Kind, TOP};
 use std::alloc::Global;
 use std::test::Fail;
 
-// A range deletion at a key and sequence number 10, 5 and the greatest one, as bounds of tables are spelt.
-const B_AT_10: [u8; 9] = [b'b', 15, 10, 0, 0, 0, 0, 0, 0];
+// Bounds of tables: internal keys of range deletions, and of puts.
+const RANGE_B_AT_10: [u8; 9] = [b'b', 15, 10, 0, 0, 0, 0, 0, 0];
 
-const C_AT_TOP: [u8; 9] = [b'c', 15, 255, 255, 255, 255, 255, 255, 255];
-// A put of `b` at 5, and one at 3.
-const B_AT_5: [u8; 9] = [b'b', 1, 5, 0, 0, 0, 0, 0, 0];
+const RANGE_C_AT_TOP: [u8; 9] = [b'c', 15, 255, 255, 255, 255, 255, 255, 255];
 
-const B_AT_3: [u8; 9] = [b'b', 1, 3, 0, 0, 0, 0, 0, 0];
+const PUT_B_AT_5: [u8; 9] = [b'b', 1, 5, 0, 0, 0, 0, 0, 0];
 
-/// Adds a range deletion, cut to bounds or not.
+const PUT_B_AT_3: [u8; 9] = [b'b', 1, 3, 0, 0, 0, 0, 0, 0];
+
+/// The bounds of a table.
+fn bounds(alloc: Global, smallest: &[u8], largest: &[u8]) -> Result<Option<Cut>, Memory>
+    requires smallest { 8 ≤ length smallest.now }
+    requires largest { 8 ≤ length largest.now }
+    ensures { IfOk result HasWholeBounds }
+{
+    Ok(Some(Cut {
+        smallest: Bytes::copy_of(alloc, smallest)?,
+        largest: Bytes::copy_of(alloc, largest)?,
+    }))
+}
+
+/// Adds a range deletion of a family, from a key up to another, at a sequence number.
 fn add(
     set: &mut TombSet,
     alloc: Global,
-    (family, sequence): (u32, u64),
-    (start, end): (&[u8], &[u8]),
-    bounds: Option<(&[u8; 9], &[u8; 9])>,
-) -> Result<(), Memory> {
-    let cut = match bounds {
-        None => None,
-        Some((smallest, largest)) => Some(Cut {
-            smallest: Bytes::copy_of(alloc, smallest.as_slice())?,
-            largest: Bytes::copy_of(alloc, largest.as_slice())?,
-        }),
-    };
+    family: u32,
+    start: &[u8],
+    end: &[u8],
+    sequence: u64,
+    cut: Option<Cut>,
+) -> Result<(), Memory>
+    requires { HasWholeBounds cut }
+{
     set.add(Tomb {
         family,
         start: Bytes::copy_of(alloc, start)?,
@@ -42,14 +52,10 @@ fn add(
 
 #[test]
 fn a_table_ends_before_a_key(rt: HostRuntime) -> Result<(), Fail> {
-    let mut set = TombSet::new(rt.alloc());
-    add(
-        &mut set,
-        rt.alloc(),
-        (0, 10),
-        (b"b", b"d"),
-        Some((&B_AT_10, &C_AT_TOP)),
-    )?;
+    let alloc = rt.alloc();
+    let mut set = TombSet::new(alloc);
+    let cut = bounds(alloc, &RANGE_B_AT_10, &RANGE_C_AT_TOP)?;
+    add(&mut set, alloc, 0, b"b", b"d", 10, cut)?;
     assert_eq!(rt; set.covering(0, b"b", 9, Kind::Value), Some(10));
     assert_eq!(rt; set.covering(0, b"c", 0, Kind::Value), None);
     Ok(())
@@ -59,24 +65,14 @@ fn a_table_ends_before_a_key(rt: HostRuntime) -> Result<(), Fail> {
 fn what_covers_is_of_the_family_the_range_and_the_bounds(rt: HostRuntime) -> Result<(), Fail> {
     let alloc = rt.alloc();
     let mut set = TombSet::new(alloc);
-    add(&mut set, alloc, (0, 7), (b"b", b"d"), None)?;
-    add(&mut set, alloc, (0, 9), (b"c", b"c\0"), None)?;
-    add(
-        &mut set,
-        alloc,
-        (1, 20),
-        (b"a", b"z"),
-        Some((&B_AT_5, &B_AT_3)),
-    )?;
+    add(&mut set, alloc, 0, b"b", b"d", 7, None)?;
+    add(&mut set, alloc, 0, b"c", b"c\0", 9, None)?;
+    let cut = bounds(alloc, &PUT_B_AT_5, &PUT_B_AT_3)?;
+    add(&mut set, alloc, 1, b"a", b"z", 20, cut)?;
     // These two are the wrong way round, and cover nothing.
-    add(&mut set, alloc, (0, 30), (b"d", b"b"), None)?;
-    add(
-        &mut set,
-        alloc,
-        (1, 40),
-        (b"a", b"z"),
-        Some((&B_AT_3, &B_AT_5)),
-    )?;
+    add(&mut set, alloc, 0, b"d", b"b", 30, None)?;
+    let turned = bounds(alloc, &PUT_B_AT_3, &PUT_B_AT_5)?;
+    add(&mut set, alloc, 1, b"a", b"z", 40, turned)?;
     let rows: [(u32, &[u8], u64, Kind, Option<u64>); 14] = [
         (0, b"a", 0, Kind::Value, None),
         (0, b"b", 6, Kind::Value, Some(7)),
@@ -94,34 +90,28 @@ fn what_covers_is_of_the_family_the_range_and_the_bounds(rt: HostRuntime) -> Res
         (2, b"b", 4, Kind::Value, None),
     ];
     for (family, user, sequence, kind, newest) in &rows {
+        assert!(rt; *sequence <= TOP);
         assert_eq!(rt; set.covering(*family, user, *sequence, *kind), *newest);
     }
     Ok(())
 }
 
-// The range deletion with the number n, below 60, is of the keys from n up to n + 8 at 100 + n.
+// The range deletion with the number n, below 60, is of the keys from n up to n + 8, at 100 + n. They are
+// added in the order of the multiples of 7.
 #[test]
 fn many_are_added_in_any_order(rt: HostRuntime) -> Result<(), Fail> {
     let alloc = rt.alloc();
     let mut set = TombSet::new(alloc);
-    for step in 0..60u8 {
-        let n = u8::try_from(u32::from(step) * 7 % 60)?;
-        add(
-            &mut set,
-            alloc,
-            (3, 100 + u64::from(n)),
-            (&[n], &[n + 8]),
-            None,
-        )?;
+    for step in 0..60u16 {
+        let n = (step * 7 % 60) as u8;
+        add(&mut set, alloc, 3, &[n], &[n + 8], 100 + u64::from(n), None)?;
     }
     for key in 0..60u8 {
-        assert_eq!(rt;
-            set.covering(3, &[key], 0, Kind::Value),
-            Some(100 + u64::from(key))
-        );
+        let newest = Some(100 + u64::from(key));
+        assert_eq!(rt; set.covering(3, &[key], 0, Kind::Value), newest);
         assert_eq!(rt;
             set.covering(3, &[key, 0], 99 + u64::from(key), Kind::Value),
-            Some(100 + u64::from(key))
+            newest
         );
         assert_eq!(rt; set.covering(3, &[key], TOP, Kind::Value), None);
     }
