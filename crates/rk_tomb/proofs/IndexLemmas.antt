@@ -1,5 +1,5 @@
 -- An index from one range deletion to the next, and what its nodes give.
-use Rattle.std.proofs.Common.{◌≡◌, ℕ, zero, suc, ◌+◌, ◌*◌, ◌/◌, ◌-◌, ◌<◌, ◌≤◌, ◌⊎◌, inl, inr, List, [], ◌∷◌, ◌++◌, length, take, drop, get_or, refl, sym, ap, ◌∙◌, subst, arith, length-append, length-take, length-drop, take-append-drop}
+use Rattle.std.proofs.Common.{◌≡◌, ℕ, zero, suc, ◌+◌, ◌/◌, ◌-◌, ◌<◌, ◌≤◌, ◌⊎◌, inl, inr, List, [], ◌∷◌, ◌++◌, length, take, drop, get_or, refl, sym, ap, ◌∙◌, subst, arith, length-append, length-take, length-drop, take-append-drop}
 use Rattle.std.specs.Prelude.{max, map}
 use Rattle.std.specs.List.{All}
 use Rattle.std.specs.List.Sorted.{IsPermutation}
@@ -10,13 +10,12 @@ use borrow.Rule.Slice.PartMut.{put_mid}
 use Rattle.rk_bytes.specs.declared.model.key.Record.{Record}
 use Rattle.rk_bytes.specs.declared.model.view.Tomb.{Tomb}
 use Rattle.rk_tomb.specs.declared.index.Node.{Node}
-use Rattle.rk_tomb.specs.declared.span.Span.{Span}
 use Rattle.rk_tomb.specs.Weights.{weight, newest}
 use Rattle.rk_tomb.specs.Spans.{tomb_at, IsWithin}
 use Rattle.rk_tomb.specs.Index.{places, tombs_of, IsPlaced, IsSpanned, IsRun, run_len, AreRuns, IsIndex}
 use Rattle.rk_tomb.proofs.NewestLemmas.{newest-append, newest-none, newest-permutation}
 use Rattle.rk_tomb.proofs.PartLemmas.{IsRun-whole, AreRuns-nil, AreRuns-first, AreRuns-rest, AreRuns-made, tomb_at-more}
-use Rattle.rk_tomb.proofs.RunLemmas.{run_len-next, run_len-le}
+use Rattle.rk_tomb.proofs.RunLemmas.{run_len-next}
 
 -- what nodes give
 

@@ -1,4 +1,4 @@
-use Rattle.std.proofs.Common.{◌≡◌, ℕ, ◌+◌, ◌-◌, ◌/◌, ◌<◌, List, length, take, drop, get_or, sym, ap, ◌∙◌, subst, arith, length-take, length-drop}
+use Rattle.std.proofs.Common.{◌≡◌, ℕ, ◌+◌, ◌-◌, ◌/◌, ◌<◌, List, length, take, drop, get_or, sym, ◌∙◌, arith, length-take, length-drop}
 use Rattle.std.specs.Prelude.{max}
 use Rattle.std.proofs.lemmas.List.{take_rest}
 use Rattle.std.proofs.lemmas.List.Elements.{All-take, All-drop}
@@ -6,7 +6,7 @@ use Rattle.rk_bytes.specs.declared.model.view.Tomb.{Tomb}
 use Rattle.rk_tomb.specs.declared.index.Node.{Node}
 use Rattle.rk_tomb.specs.Weights.{record_of, weight, newest}
 use Rattle.rk_tomb.specs.Spans.{tomb_at}
-use Rattle.rk_tomb.specs.Index.{tombs_of, IsPlaced, IsRun}
+use Rattle.rk_tomb.specs.Index.{tombs_of, IsPlaced}
 use Rattle.rk_tomb.proofs.EdgeLemmas.{tomb_at-read}
 use Rattle.rk_tomb.proofs.IndexLemmas.{newest-missed, newest-split}
 use Rattle.rk_tomb.proofs.PartLemmas.{IsRun-before, IsRun-after}

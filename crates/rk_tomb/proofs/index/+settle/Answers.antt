@@ -1,12 +1,11 @@
-use Rattle.std.proofs.Common.{◌≡◌, ℕ, ◌+◌, ◌-◌, ◌<◌, ◌≤◌, List, [], ◌∷◌, ◌++◌, length, take, drop, get_or, refl, sym, ap, ◌∙◌, subst, arith, length-take, length-drop, take-append-drop}
+use Rattle.std.proofs.Common.{◌≡◌, ℕ, ◌-◌, List, length, take, drop, sym, ap, ◌∙◌, subst, arith, length-drop}
 use Rattle.std.specs.Prelude.{Result, Ok, Err, OnOk}
 use Rattle.std.specs.List.Sorted.{IsPermutation}
 use Rattle.std.proofs.lemmas.List.{take_rest, length-map}
 use Rattle.std.proofs.lemmas.List.Elements.{All-drop}
 use Rattle.std.proofs.lemmas.List.Sorted.{IsPermutation-map, length_permutation, All-permutation}
-use Rattle.rk_bytes.specs.declared.model.view.Tomb.{Tomb}
 use Rattle.rk_tomb.specs.declared.index.Node.{Node}
-use Rattle.rk_tomb.specs.Index.{places, IsPlaced, run_len, AreRuns}
+use Rattle.rk_tomb.specs.Index.{places, IsPlaced, run_len}
 use Rattle.rk_tomb.proofs.IndexLemmas.{rest_moved, rest_of_runs, runs_with_rest}
 use Rattle.rk_tomb.proofs.PartLemmas.{AreRuns-one}
 use Rattle.rk_tomb.proofs.RunLemmas.{run_len-le, run_len-positive}

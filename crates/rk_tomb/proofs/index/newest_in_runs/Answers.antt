@@ -1,4 +1,4 @@
-use Rattle.std.proofs.Common.{◌≡◌, ℕ, ◌<◌, ◌≤◌, List, ◌++◌, length, take, drop, get_or, take-append-drop, sym, ap, ◌∙◌, subst, arith}
+use Rattle.std.proofs.Common.{◌≡◌, ℕ, ◌<◌, List, ◌++◌, length, take, drop, get_or, take-append-drop, sym, ap, ◌∙◌, subst, arith}
 use Rattle.std.proofs.lemmas.List.Elements.{All-drop}
 use Rattle.rk_bytes.specs.declared.model.view.Tomb.{Tomb}
 use Rattle.rk_tomb.specs.declared.index.Node.{Node}
@@ -6,7 +6,7 @@ use Rattle.rk_tomb.specs.Weights.{record_of, newest}
 use Rattle.rk_tomb.specs.Index.{tombs_of, run_len, IsPlaced, IsRun, AreRuns}
 use Rattle.rk_tomb.proofs.IndexLemmas.{newest-nodes}
 use Rattle.rk_tomb.proofs.PartLemmas.{AreRuns-first, AreRuns-rest}
-use Rattle.rk_tomb.proofs.RunLemmas.{run_len-le, run_len-positive}
+use Rattle.rk_tomb.proofs.RunLemmas.{run_len-le}
 use Rattle.rk_tomb.proofs.index.newest_in_runs.Goals as goal
 
 pub split_at-requires : goal.split_at-requires

@@ -1,4 +1,4 @@
-use Rattle.std.proofs.Common.{◌≡◌, ℕ, ◌*◌, ◌%◌, ◌^◌, ◌<◌, sym, ◌∙◌, arith}
+use Rattle.std.proofs.Common.{◌≡◌, ℕ, ◌*◌, ◌%◌, ◌^◌, sym, ◌∙◌, arith}
 use Rattle.rk_tomb.proofs.RunLemmas.{run_len-within, run_len-power}
 use Rattle.rk_tomb.proofs.index.run_len.Goals as goal
 

@@ -1,4 +1,4 @@
-use Rattle.std.proofs.Common.{◌≡◌, true, sym, ap, ◌∙◌}
+use Rattle.std.proofs.Common.{◌≡◌, true}
 use Rattle.std.specs.Ordering.{is_gt}
 use Rattle.rk_tomb.specs.Spans.{end_of, tomb_at, edge_cmp}
 use Rattle.rk_tomb.proofs.EdgeLemmas.{IsUpTo-refl, IsUpTo-turned, tomb_at-read}

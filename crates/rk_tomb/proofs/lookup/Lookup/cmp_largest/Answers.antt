@@ -1,7 +1,4 @@
-use Rattle.std.proofs.Common.{◌≡◌, ℕ, List, sym, ap, ◌∙◌, arith}
-use Rattle.std.specs.Ordering.{nat_cmp, ordering_then}
-use Rattle.std.specs.Cmp.Lexicographic.{slice_cmp}
-use Rattle.rk_bytes.specs.Model.InternalKey.{user_key, packed}
+use Rattle.std.proofs.Common.{arith}
 use Rattle.rk_tomb.proofs.KeyLemmas.{user_key-internal_key, packed-internal_key}
 use Rattle.rk_tomb.proofs.lookup.Lookup.cmp_largest.Goals as goal
 

@@ -1,6 +1,6 @@
-use Rattle.std.proofs.Common.{◌≡◌, ℕ, ◌≤◌, refl, sym, ap, subst, arith}
+use Rattle.std.proofs.Common.{◌≡◌, ap, arith}
 use Rattle.rk_bytes.specs.declared.model.view.Tomb.{Tomb}
-use Rattle.rk_tomb.specs.Spans.{start_of, end_of, tomb_at, IsWithin}
+use Rattle.rk_tomb.specs.Spans.{start_of, end_of, tomb_at}
 use Rattle.rk_tomb.proofs.EdgeLemmas.{IsUpTo-refl, tomb_at-read}
 use Rattle.rk_tomb.proofs.span.Span.of.Goals as goal
 
