@@ -1,0 +1,7 @@
+mod EdgeLemmas
+mod IndexLemmas
+mod KeyLemmas
+mod NewestLemmas
+mod PartLemmas
+mod RunLemmas
+mod SummaryLemmas

@@ -1,0 +1,4 @@
+pub mod Bounds
+pub mod Index
+pub mod Spans
+pub mod Weights
