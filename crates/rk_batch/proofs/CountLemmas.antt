@@ -1,12 +1,12 @@
 -- The changes of a batch, counted part after part.
-use Rattle.std.specs.Prelude.{slice_index, ◌==◌}
+use Rattle.std.specs.Prelude.{slice_index}
 use Rattle.std.proofs.Common.{◌≡◌, ℕ, ◌+◌, ◌-◌, ◌<◌, ◌≤◌, Bool, true, false, List, [], ◌∷◌, ◌++◌, length, drop, Result, Ok, Err, refl, sym, ap, ◌∙◌, arith, length-drop, append_assoc}
-use Rattle.std.proofs.Math.Dec.{eqb-suc-zero}
 use Rattle.std.proofs.lemmas.List.{append-nil, nil_from_length}
 use Rattle.rk_bytes.specs.declared.model.batch.BatchFault.{BatchFault}
 use Rattle.rk_bytes.specs.Model.Numbers.{◌>>=◌}
 use Rattle.rk_bytes.specs.Model.WriteBatch.{Part, change_count, part_of_tag}
 use Rattle.rk_bytes.specs.Reading.{Reading, IsFurther, rest_of}
+use Rattle.rk_bytes.proofs.Callers.Cursors.{place_of_rest}
 use Rattle.rk_batch.specs.Seen.{parts_left, counted}
 use Rattle.rk_batch.proofs.ViewLemmas.{change_count-cons, parts_left-nothing, parts_left-more, parts_left-fault}
 use Rattle.rk_batch.proofs.Shorter.{rest_shorter}
@@ -49,9 +49,6 @@ then_one (Ok parts) front part = ap Ok (sym (append_assoc front (part ∷ []) pa
 then_one (Err why) front part = refl
 
 -- the place of a part, by what is left
-pub place_of_rest : (now : Reading) → now.place ≤ length now.bytes → length now.bytes - length (rest_of now) ≡ now.place
-place_of_rest now within = omega (arith, length-drop now.place now.bytes)
-
 pub placed : (start now : Reading) → now.bytes ≡ start.bytes → now.place ≤ length now.bytes → length start.bytes - length (rest_of now) ≡ now.place
 placed start now same within = ap (λ len. len - length (rest_of now)) (ap length (sym same)) ∙ place_of_rest now within
 
@@ -102,12 +99,3 @@ Counting-fault start now count sequence why c some reads =
     let read : part_of_tag (length start.bytes - length (rest_of now)) q (slice_index (rest_of now) 0) (drop 1 (rest_of now)) ≡ Err why =
     ap (λ place. part_of_tag place q (slice_index (rest_of now) 0) (drop 1 (rest_of now))) (placed start now c.same c.within) ∙ sym (reads q) in
     ap counted (sym (f.whole ∙ ap (λ r. r >>= (λ more. Ok (f.front ++ more))) (parts_left-fault (length start.bytes) q (rest_of now) why some read)))
-
--- a test of whether bytes are left
-pub some_left : (bytes rest : List ℕ) (test : Bool) → bytes ≡ rest → test ≡ (length bytes == 0) → test ≡ false → 0 < length rest
-some_left bytes [] test same is passed = absurd (let other : test ≡ true = is ∙ ap (λ bytes. length bytes == 0) same in cc)
-some_left bytes (b ∷ rest) test same is passed = omega arith
-
-pub none_left : (bytes rest : List ℕ) (test : Bool) → bytes ≡ rest → test ≡ (length bytes == 0) → test ≡ true → length rest ≡ 0
-none_left bytes [] test same is passed = refl
-none_left bytes (b ∷ rest) test same is passed = absurd (let other : test ≡ false = is ∙ ap (λ bytes. length bytes == 0) same ∙ eqb-suc-zero (length rest) in cc)

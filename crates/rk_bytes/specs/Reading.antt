@@ -34,7 +34,7 @@ abbrev pub found_at : {A : Type 0} → List ℕ → Result (A × ℕ) NumFault �
 found_at bytes (Ok found) = Ok (found.0, drop found.1 bytes)
 found_at bytes (Err fault) = Err fault
 
--- the bytes of a slice that was read
-abbrev pub slice_read : Result (Bor (List ℕ)) NumFault → Result (List ℕ) NumFault
+-- the bytes of a slice that was read, or the fault
+abbrev pub slice_read : {F : Type 0} → Result (Bor (List ℕ)) F → Result (List ℕ) F
 slice_read (Ok part) = Ok part.now
 slice_read (Err fault) = Err fault

@@ -28,6 +28,13 @@ impl Text {
         })
     }
 
+    /// The text itself, taking no memory.
+    pub fn from_string(text: String) -> Text
+        ensures { result ≡ string_bytes text }
+    {
+        Text { text }
+    }
+
     /// The whole text.
     pub fn as_str(&self) -> &str
         ensures { result.now ≡ self.now }

@@ -1,6 +1,5 @@
 mod Bits
 mod Customs
-mod Leaving
 mod Shorter
 mod Steps
 mod Tracking

@@ -8,7 +8,7 @@ use Rattle.rk_bytes.specs.Model.Numbers.{Read, ◌>>=◌, varint32_at, varint64_
 use Rattle.rk_bytes.specs.Model.InternalKey.{top_sequence}
 use Rattle.rk_bytes.specs.Model.VersionEdit.{Field, comparator, log_number, next_file, last_sequence, compact_cursor, delete_file, add_file, previous_log, least_log, family, family_add, family_drop, greatest_family, group, wal_delete, ignored, level_at, bound_at, sequence_at, file_with, file_at, with_sequences, sequenced_file_at, after_path, after_custom, after_customs, custom_file_at, in_slice, tracked_at, added_log, reads, value_readers, value_reader, is_unsupported_edit_tag, is_passed_over, field_of_tag, clashes, field_at}
 use Rattle.rk_bytes.proofs.Callers.InTurn.{Shortens}
-use Rattle.rk_edit.proofs.Leaving.{Leaves, after, leaves_fault, leaves_ok, leaves_either, leaves_then, leaves_or, varint_shorter, varint32_leaves, varint64_leaves, prefixed_leaves}
+use Rattle.rk_bytes.proofs.Callers.Leaving.{Leaves, after, leaves_fault, leaves_ok, leaves_either, leaves_then, leaves_or, varint_shorter, varint32_leaves, varint64_leaves, prefixed_leaves}
 
 level_leaves : (most : ℕ) (bytes : List ℕ) → length bytes ≤ most → Leaves after most (level_at bytes)
 level_leaves most bytes short = leaves_then after (varint32_at bytes) _ (varint32_leaves most bytes short) (λ level short. leaves_either (nat_le level.0 255) (leaves_ok after most level short) (leaves_fault after most TooLarge))

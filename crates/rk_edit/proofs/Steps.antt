@@ -1,13 +1,12 @@
 -- The fields of an edit, one after another.
-use Rattle.std.proofs.Common.{◌≡◌, ℕ, ◌-◌, ◌<◌, ◌≤◌, Bool, true, false, cond, List, [], ◌∷◌, length, Result, Ok, Err, refl, sym, ap, ◌∙◌, subst, arith, length-drop}
-use Rattle.std.specs.Prelude.{◌==◌}
-use Rattle.std.proofs.Math.Dec.{eqb-suc-zero}
+use Rattle.std.proofs.Common.{◌≡◌, ℕ, ◌-◌, ◌<◌, ◌≤◌, Bool, true, false, cond, List, [], ◌∷◌, length, Result, Ok, Err, refl, sym, ap, ◌∙◌, subst, arith}
 use Rattle.std.proofs.lemmas.Bool.{cond-false}
 use Rattle.std.proofs.lemmas.List.{nil_from_length}
 use Rattle.rk_bytes.specs.declared.model.edit.EditFault.{EditFault}
 use Rattle.rk_bytes.specs.declared.model.edit.EditFault.TheVariants.{BadField}
 use Rattle.rk_bytes.specs.Model.Numbers.{◌>>=◌, varint32_at, reads_or, in_turn}
 use Rattle.rk_bytes.specs.Model.VersionEdit.{Field, field_of_tag, clashes, field_at, edit_fields}
+use Rattle.rk_bytes.proofs.Callers.Cursors.{place_of_rest}
 use Rattle.rk_bytes.proofs.Callers.InTurn.{in_turn-room}
 use Rattle.rk_bytes.specs.Reading.{Reading, IsFurther, rest_of}
 use Rattle.rk_edit.specs.declared.before.FamilyFields.{FamilyFields}
@@ -44,9 +43,6 @@ fields_left-fault len before [] why some is = absurd (omega arith)
 fields_left-fault len before (b ∷ bytes) why some is =
     ap (λ r. r >>= (λ one. in_turn (field_at len) (length bytes) (one.0 ∷ before) one.1 >>= (λ more. Ok (one.0 ∷ more)))) is
 
-place_of_rest : (cursor : Reading) → cursor.place ≤ length cursor.bytes → length cursor.bytes - length (rest_of cursor) ≡ cursor.place
-place_of_rest cursor within = omega (arith, length-drop cursor.place cursor.bytes)
-
 -- a field after its tag, where it doesn't clash
 pub field_at-tagged : (cursor mid : Reading) (before : List Field) (tag : ℕ) → cursor.place ≤ length cursor.bytes
     → ◌≡◌ {A = Result (ℕ × List ℕ) EditFault} (Ok (tag, rest_of mid)) (reads_or (BadField 0 cursor.place) (varint32_at (rest_of cursor))) → clashes tag before ≡ false
@@ -55,15 +51,6 @@ field_at-tagged cursor mid before tag within is apart =
     ap (λ place. reads_or (BadField 0 place) (varint32_at (rest_of cursor)) >>= (λ tag. cond (clashes tag.0 before) (Err (BadField tag.0 place)) (field_of_tag place tag.0 tag.1))) (place_of_rest cursor within)
     ∙ ap (λ r. r >>= (λ tag. cond (clashes tag.0 before) (Err (BadField tag.0 cursor.place)) (field_of_tag cursor.place tag.0 tag.1))) (sym is)
     ∙ cond-false (clashes tag before) _ _ apart
-
--- a test of whether bytes are left
-pub some_left : (bytes rest : List ℕ) (test : Bool) → bytes ≡ rest → test ≡ (length bytes == 0) → test ≡ false → 0 < length rest
-some_left bytes [] test same is passed = absurd (let other : test ≡ true = is ∙ ap (λ bytes. length bytes == 0) same in cc)
-some_left bytes (b ∷ rest) test same is passed = omega arith
-
-pub none_left : (bytes rest : List ℕ) (test : Bool) → bytes ≡ rest → test ≡ (length bytes == 0) → test ≡ true → length rest ≡ 0
-none_left bytes [] test same is passed = refl
-none_left bytes (b ∷ rest) test same is passed = absurd (let other : test ≡ false = is ∙ ap (λ bytes. length bytes == 0) same ∙ eqb-suc-zero (length rest) in cc)
 
 -- whether more is read after a field
 pub whether-more : (field : Field) (r : Result (List Field) EditFault) → whether_read (r >>= (λ more. Ok (field ∷ more))) ≡ whether_read r

@@ -9,7 +9,7 @@ use Rattle.rk_bytes.specs.Model.Numbers.{Read, ◌>>=◌, varint32_at, varint64_
 use Rattle.rk_bytes.specs.Model.VersionEdit.{synced_sizes_at}
 use Rattle.rk_bytes.specs.Reading.{Reading, IsFurther, rest_of}
 use Rattle.rk_edit.specs.Read.{synced_at}
-use Rattle.rk_edit.proofs.Leaving.{varint_shorter}
+use Rattle.rk_bytes.proofs.Callers.Leaving.{varint_shorter}
 
 -- the size that is stated last, or this one where none is
 abbrev pub last_size : Option ℕ → Read (List ℕ) → Read (Option ℕ)

@@ -18,7 +18,6 @@ mod KeyViewLemmas
 mod KeyViewRows
 mod LostNames
 mod ManifestUnits
-mod NameLemmas
 mod NumberOrder
 mod OpeningLemmas
 mod Orders

@@ -38,8 +38,7 @@ pub fn write_name(alloc: Global, name: &FileName) -> Result<Text, Memory>
     ensures printed { IfOk result (λ text. text ≡ printed_name name.now) }
     ensures read { IfOk result (λ text. name_of text ≡ name.now) }
 {
-    let text = printed(alloc, name)?;
-    Ok(Text::copy_of(alloc, text.as_str())?)
+    Ok(Text::from_string(printed(alloc, name)?))
 }
 
 /// The name as it is printed.

@@ -2,7 +2,8 @@ use Rattle.std.proofs.Common.{sym, ap, ◌∙◌, Err}
 use Rattle.std.proofs.lemmas.Result.{err_from_is_err_and}
 use Rattle.rk_bytes.specs.Reading.{rest_of}
 use Rattle.rk_batch.specs.Parts.{part_at}
-use Rattle.rk_batch.proofs.CountLemmas.{Counting-start, Counting-more, Counting-end, Counting-fault, some_left, none_left}
+use Rattle.rk_batch.proofs.CountLemmas.{Counting-start, Counting-more, Counting-end, Counting-fault}
+use Rattle.rk_bytes.proofs.Callers.Cursors.{some_left, none_left}
 use Rattle.rk_batch.proofs.Shorter.{rest_shorter}
 use Rattle.rk_batch.proofs.view.count_changes.Goals as goal
 

@@ -2,7 +2,8 @@ use Rattle.std.proofs.Common.{◌<◌, length, refl}
 use Rattle.std.proofs.lemmas.Result.{err_from_is_err_and}
 use Rattle.rk_bytes.specs.Reading.{rest_of}
 use Rattle.rk_edit.specs.Fields.{field_of}
-use Rattle.rk_edit.proofs.Steps.{some_left, none_left, Checks, Checks-start, Checks-end, Checks-fault, Checks-more}
+use Rattle.rk_bytes.proofs.Callers.Cursors.{some_left, none_left}
+use Rattle.rk_edit.proofs.Steps.{Checks, Checks-start, Checks-end, Checks-fault, Checks-more}
 use Rattle.rk_edit.proofs.view.check_fields.Goals as goal
 
 pub loop-cursor-init : goal.loop-cursor-init

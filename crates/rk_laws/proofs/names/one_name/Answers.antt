@@ -1,4 +1,4 @@
-use Rattle.rk_laws.proofs.NameLemmas.{name_of-printed, printed-name_of}
+use Rattle.rk_bytes.proofs.Callers.Names.{name_of-printed, printed-name_of}
 use Rattle.rk_laws.proofs.names.one_name.Goals as goal
 
 pub returns-clause-read : goal.returns-clause-read

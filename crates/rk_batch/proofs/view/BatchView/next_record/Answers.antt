@@ -3,7 +3,7 @@ use Rattle.rk_bytes.specs.Model.WriteBatch.{change_count}
 use Rattle.rk_bytes.specs.Reading.{rest_of}
 use Rattle.rk_batch.specs.Parts.{part_at}
 use Rattle.rk_batch.specs.Seen.{BatchSeen, parts_left, parts_or_none}
-use Rattle.rk_batch.proofs.CountLemmas.{some_left, none_left}
+use Rattle.rk_bytes.proofs.Callers.Cursors.{some_left, none_left}
 use Rattle.rk_batch.proofs.ReadLemmas.{IsRead-more, IsRead-never, nothing_left}
 use Rattle.rk_batch.proofs.view.BatchView.next_record.Goals as goal
 

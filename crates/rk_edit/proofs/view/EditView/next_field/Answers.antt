@@ -2,7 +2,7 @@ use Rattle.std.proofs.Common.{◌≡◌, [], length, Ok, Err, refl, sym, ◌∙�
 use Rattle.rk_bytes.specs.Model.VersionEdit.{field_at}
 use Rattle.rk_bytes.specs.Reading.{Reading, rest_of}
 use Rattle.rk_edit.specs.Fields.{field_of}
-use Rattle.rk_edit.proofs.Steps.{some_left, none_left}
+use Rattle.rk_bytes.proofs.Callers.Cursors.{some_left, none_left}
 use Rattle.rk_edit.proofs.Views.{HandsOut, hands_out, never_fails, nothing_left}
 use Rattle.rk_edit.proofs.view.EditView.next_field.Goals as goal
 
