@@ -45,8 +45,8 @@ impl KeyBuf {
         ensures err { OnErr result (self.new ≡ self.old) }
     {
         let dropped = self.bytes.len() - entry.shared;
-        self.bytes
-            .reserve(entry.rest.len().saturating_sub(dropped))?;
+        let more = entry.rest.len().saturating_sub(dropped);
+        self.bytes.reserve(more)?;
         self.bytes.truncate(entry.shared);
         match self.bytes.extend_from_slice(entry.rest) {
             Ok(()) => Ok(()),
