@@ -18,12 +18,13 @@ pub struct KeyBuf {
 
 impl Model for KeyBuf {
     ghost use Rattle.std.specs.Prelude.{◌≤◌, List, ℕ};
+    ghost use Rattle.rk_block.specs.declared.key_buf.TheConstants.{INLINE_LEN};
 
     ghost Value = { List ℕ };
 
     ghost view = { λ k. k.bytes.items };
 
-    ghost invariant = { λ k. 64 ≤ k.bytes.capacity };
+    ghost invariant = { λ k. INLINE_LEN ≤ k.bytes.capacity };
 }
 
 impl KeyBuf {

@@ -4,7 +4,7 @@ ghost use Rattle.rk_block.specs.Seen.{seen_whole, entries_read};
 ghost use Rattle.rk_block.specs.Raw.{entry_of, key_after};
 
 use crate::entry::read_entry;
-use crate::part::{Parts, block_parts, has_right_restarts};
+use crate::part::{BlockParts, block_parts, has_right_restarts};
 use crate::{BlockFault, RawEntry};
 use std::marker::Model;
 
@@ -38,8 +38,8 @@ impl<'a> BlockView<'a> {
         ensures entries { entries_read result ≡ block_entries bytes.now }
         ensures bytes { IfOk result (λ view. view.bytes ≡ bytes.now) }
     {
-        let Parts { entries, offsets } = block_parts(bytes)?;
-        if has_right_restarts(entries, offsets)? {
+        let BlockParts { entries, restarts } = block_parts(bytes)?;
+        if has_right_restarts(entries, restarts)? {
             Ok(BlockView {
                 bytes,
                 part: entries,
