@@ -1,96 +1,59 @@
--- Bytes between quotation marks, run by run.
-use Rattle.std.proofs.Common.{◌≡◌, ℕ, suc, ◌+◌, ◌/◌, ◌%◌, ◌<◌, ◌≤◌, Bool, true, false, cond, List, [], ◌∷◌, ◌++◌, length, take, drop, get_or, refl, sym, ap, ◌∙◌, arith, inl, inr, append_assoc, length-drop}
+-- Bytes as they are shown, chunk by chunk.
+use Rattle.std.proofs.Common.{◌≡◌, ℕ, ◌+◌, ◌/◌, ◌%◌, ◌<◌, ◌≤◌, ◌&&◌, Bool, true, false, List, [], ◌∷◌, ◌++◌, length, take, get_or, refl, sym, ap, ◌∙◌, append_assoc, length-take-le}
 use Rattle.std.specs.Prelude.{flat_map, slice_index, codes}
-use Rattle.std.specs.List.{prefix_len}
-use Rattle.std.proofs.lemmas.Bool.{false≢true, cases_lt, cond-true, cond-false}
-use Rattle.std.proofs.lemmas.List.{take-append-drop, append-nil, get_or-drop}
-use Rattle.std.proofs.lemmas.List.Sums.{prefix_len_passes, prefix_len_stops}
+use Rattle.std.specs.List.{list_all}
+use Rattle.std.proofs.Math.Seq.{take-append-add}
+use Rattle.std.proofs.lemmas.Bool.{false≢true, cond-true}
+use Rattle.std.proofs.lemmas.List.{append-nil, take_more, take-append-le}
 use Rattle.std.proofs.lemmas.Grind.{flat_map-append}
-use Rattle.hex.specs.Hex.{encode_with, encode_lower, lower_digits}
+use borrow.Rule.Slice.PartMut.{put_mid, post_of}
+use Rattle.hex.specs.Hex.{encode_with, encode_lower}
 use Rattle.rk_bytes.specs.Model.Lines.{quoted, shown_byte, stands_for_itself}
-
-take_one : (b : ℕ) (bytes : List ℕ) → take (1 + prefix_len stands_for_itself bytes) (b ∷ bytes) ≡ b ∷ take (prefix_len stands_for_itself bytes) bytes
-take_one b bytes = let n : 1 + prefix_len stands_for_itself bytes ≡ suc (prefix_len stands_for_itself bytes) = omega arith in ap (λ n. take n (b ∷ bytes)) n
-
-itself : (b : ℕ) → stands_for_itself b ≡ true → shown_byte b ≡ b ∷ []
-itself b is = cond-true _ _ _ is
-
-pub shown_other : (b : ℕ) → stands_for_itself b ≡ false → shown_byte b ≡ codes "\\x" ++ encode_lower (b ∷ [])
-shown_other b is = cond-false _ _ _ is
-
--- bytes that stand for themselves are shown as they are
-pub shown-run : (bytes : List ℕ) → flat_map shown_byte (take (prefix_len stands_for_itself bytes) bytes) ≡ take (prefix_len stands_for_itself bytes) bytes
-shown-run [] = refl
-shown-run (b ∷ bytes) = by (stands_for_itself b) refl (shown-run bytes)
-  where
-    by : (test : Bool) → stands_for_itself b ≡ test → flat_map shown_byte (take (prefix_len stands_for_itself bytes) bytes) ≡ take (prefix_len stands_for_itself bytes) bytes
-        → flat_map shown_byte (take (cond test (1 + prefix_len stands_for_itself bytes) 0) (b ∷ bytes)) ≡ take (cond test (1 + prefix_len stands_for_itself bytes) 0) (b ∷ bytes)
-    by true told more = ap (λ run. flat_map shown_byte run) (take_one b bytes) ∙ ap (λ shown. shown ++ flat_map shown_byte (take (prefix_len stands_for_itself bytes) bytes)) (itself b told) ∙ ap (λ rest. b ∷ rest) more ∙ sym (take_one b bytes)
-    by false told more = refl
-
--- what stands in quotation marks after a run
-pub shown-after : (bytes : List ℕ) → flat_map shown_byte bytes ≡ take (prefix_len stands_for_itself bytes) bytes ++ flat_map shown_byte (drop (prefix_len stands_for_itself bytes) bytes)
-shown-after bytes =
-    let n = prefix_len stands_for_itself bytes in
-    ap (flat_map shown_byte) (sym (take-append-drop n bytes)) ∙ flat_map-append shown_byte (take n bytes) (drop n bytes)
-    ∙ ap (λ run. run ++ flat_map shown_byte (drop n bytes)) (shown-run bytes)
 
 pub encode_with-append : (table xs ys : List ℕ) → encode_with table (xs ++ ys) ≡ encode_with table xs ++ encode_with table ys
 unfolding encode_with
 encode_with-append table [] ys = refl
 encode_with-append table (x ∷ xs) ys = ap (λ rest. slice_index table (x / 16) ∷ slice_index table (x % 16) ∷ rest) (encode_with-append table xs ys)
 
--- a byte that stands for itself, or doesn't, at a place
-pub plain_here : (bytes : List ℕ) (i : ℕ) → i ≤ prefix_len stands_for_itself bytes → i < length bytes → stands_for_itself (get_or bytes i 0) ≡ true → i + 1 ≤ prefix_len stands_for_itself bytes
-plain_here bytes i reached within plain = elim (cases_lt i (prefix_len stands_for_itself bytes)) [
-  | inl more ↦ omega arith
-  | inr ended ↦
-      let here : prefix_len stands_for_itself bytes ≡ i = omega arith in
-      let stopped = prefix_len_stops stands_for_itself bytes 0 (omega arith) in
-      absurd (false≢true (sym stopped ∙ ap (λ i. stands_for_itself (get_or bytes i 0)) here ∙ plain))
-]
+-- what is written of the bytes of a chunk and of others, by a writing that goes byte by byte
+pub chunk_step : (written : List ℕ → List ℕ) → ((xs ys : List ℕ) → written (xs ++ ys) ≡ written xs ++ written ys)
+    → (start line next bytes rest chunk others : List ℕ) → start ++ written bytes ≡ line ++ written rest
+    → rest ≡ chunk ++ others → next ≡ line ++ written chunk → start ++ written bytes ≡ next ++ written others
+chunk_step written joined start line next bytes rest chunk others so_far parts is =
+    so_far ∙ ap (λ text. line ++ text) (ap written parts ∙ joined chunk others)
+    ∙ sym (append_assoc line (written chunk) (written others)) ∙ ap (λ line. line ++ written others) (sym is)
 
-pub plain_ends : (bytes : List ℕ) (i : ℕ) → i ≤ prefix_len stands_for_itself bytes → stands_for_itself (get_or bytes i 0) ≡ false → i ≡ prefix_len stands_for_itself bytes
-plain_ends bytes i reached other = elim (cases_lt i (prefix_len stands_for_itself bytes)) [
-  | inl more ↦ let passes = prefix_len_passes stands_for_itself bytes i 0 more in absurd (false≢true (sym other ∙ passes))
-  | inr ended ↦ omega arith
-]
+pub chunk_end : (written : List ℕ → List ℕ) → written [] ≡ []
+    → (start line bytes rest : List ℕ) → start ++ written bytes ≡ line ++ written rest → rest ≡ [] → line ≡ start ++ written bytes
+chunk_end written nothing start line bytes rest so_far none =
+    sym (so_far ∙ ap (λ text. line ++ text) (ap written none ∙ nothing) ∙ append-nil line)
 
-drop_some : (xs : List ℕ) (n b : ℕ) (after : List ℕ) → drop n xs ≡ b ∷ after → n < length xs
-drop_some xs n b after is = let left = ap length is in omega (arith, left, length-drop n xs)
+itself : (b : ℕ) → stands_for_itself b ≡ true → shown_byte b ≡ b ∷ []
+itself b is = cond-true _ _ _ is
 
-get_or_of_drop : (xs : List ℕ) (n b : ℕ) (after : List ℕ) → drop n xs ≡ b ∷ after → get_or xs n 0 ≡ b
-get_or_of_drop xs n b after is = let place : n + 0 ≡ n = omega arith in sym (get_or-drop n xs 0 0 ∙ ap (λ i. get_or xs i 0) place) ∙ ap (λ ys. get_or ys 0 0) is
+-- bytes that stand for themselves are shown as they are
+pub shown_plain : (bytes : List ℕ) → list_all stands_for_itself bytes ≡ true → flat_map shown_byte bytes ≡ bytes
+shown_plain [] _ = refl
+shown_plain (b ∷ bytes) all = by (stands_for_itself b) (list_all stands_for_itself bytes) refl refl (shown_plain bytes) all
+  where
+    by : (this others : Bool) → stands_for_itself b ≡ this → list_all stands_for_itself bytes ≡ others → (list_all stands_for_itself bytes ≡ true → flat_map shown_byte bytes ≡ bytes) → (this && others) ≡ true
+        → flat_map shown_byte (b ∷ bytes) ≡ b ∷ bytes
+    by true true is others more _ = ap (λ shown. shown ++ flat_map shown_byte bytes) (itself b is) ∙ ap (λ rest. b ∷ rest) (more others)
+    by true false _ _ _ both = absurd (false≢true both)
+    by false others _ _ _ both = absurd (false≢true both)
 
--- what is spelled of the bytes of a chunk and of others
-pub hex_step : (start line next bytes rest chunk others : List ℕ) → start ++ encode_lower bytes ≡ line ++ encode_lower rest
-    → rest ≡ chunk ++ others → next ≡ line ++ encode_lower chunk → start ++ encode_lower bytes ≡ next ++ encode_lower others
-hex_step start line next bytes rest chunk others so_far parts is =
-    so_far ∙ ap (λ shown. line ++ shown) (ap encode_lower parts ∙ encode_with-append lower_digits chunk others)
-    ∙ sym (append_assoc line (encode_lower chunk) (encode_lower others)) ∙ ap (λ line. line ++ encode_lower others) (sym is)
-
-pub hex_end : (start line bytes rest : List ℕ) → start ++ encode_lower bytes ≡ line ++ encode_lower rest → rest ≡ [] → line ≡ start ++ encode_lower bytes
-unfolding encode_with
-hex_end start line bytes rest so_far none = sym (so_far ∙ ap (λ rest. line ++ encode_lower rest) none ∙ append-nil line)
-
--- what is shown of bytes at whose front a run stands, and then a byte that doesn't stand for itself, and others
-pub shown_step : (start line bytes rest run after : List ℕ) (b : ℕ) → start ++ flat_map shown_byte bytes ≡ line ++ flat_map shown_byte rest
-    → run ≡ take (prefix_len stands_for_itself rest) rest → drop (prefix_len stands_for_itself rest) rest ≡ b ∷ after
-    → start ++ flat_map shown_byte bytes ≡ ((line ++ run) ++ (codes "\\x" ++ encode_lower (b ∷ []))) ++ flat_map shown_byte after
-shown_step start line bytes rest run after b so_far is then =
-    let n = prefix_len stands_for_itself rest in
-    let escaped = codes "\\x" ++ encode_lower (b ∷ []) in
-    let long : n < length rest = drop_some rest n b after then in
-    let first : get_or rest n 0 ≡ b = get_or_of_drop rest n b after then in
-    let other : stands_for_itself b ≡ false = sym (ap stands_for_itself first) ∙ prefix_len_stops stands_for_itself rest 0 long in
-    so_far
-    ∙ ap (λ shown. line ++ shown) (shown-after rest ∙ ap (λ more. take n rest ++ flat_map shown_byte more) then ∙ ap (λ run. run ++ flat_map shown_byte (b ∷ after)) (sym is) ∙ ap (λ shown. run ++ (shown ++ flat_map shown_byte after)) (shown_other b other))
-    ∙ sym (append_assoc line run (escaped ++ flat_map shown_byte after)) ∙ sym (append_assoc (line ++ run) escaped (flat_map shown_byte after))
-
-pub shown_end : (start line bytes rest run : List ℕ) → start ++ flat_map shown_byte bytes ≡ line ++ flat_map shown_byte rest
-    → run ≡ take (prefix_len stands_for_itself rest) rest → drop (prefix_len stands_for_itself rest) rest ≡ [] → line ++ run ≡ start ++ flat_map shown_byte bytes
-shown_end start line bytes rest run so_far is none =
-    ap (λ run. line ++ run) is ∙ sym (so_far ∙ ap (λ shown. line ++ shown) (shown-after rest ∙ ap (λ more. take (prefix_len stands_for_itself rest) rest ++ flat_map shown_byte more) none ∙ append-nil (take (prefix_len stands_for_itself rest) rest)))
+-- the text of one more byte, of which a front is kept, behind those that were written
+pub shown_more : (len count k i : ℕ) (buffer text chunk : List ℕ) → len ≤ length buffer → count ≤ length text → i < length chunk
+    → take len buffer ≡ flat_map shown_byte (take i chunk) → take count text ≡ shown_byte (get_or chunk i 0)
+    → take (len + count) (put_mid len k buffer text) ≡ flat_map shown_byte (take (i + 1) chunk)
+shown_more len count k i buffer text chunk within whole here so_far is =
+    let front = take len buffer in
+    let long : length front ≡ len = length-take-le len buffer within in
+    ap (λ n. take (n + count) (front ++ (text ++ post_of len k buffer))) (sym long)
+    ∙ take-append-add front (text ++ post_of len k buffer) count
+    ∙ ap (λ more. front ++ more) (take-append-le count text (post_of len k buffer) whole ∙ is)
+    ∙ ap (λ front. front ++ shown_byte (get_or chunk i 0)) so_far
+    ∙ sym (ap (λ front. flat_map shown_byte front) (take_more chunk i 0 here) ∙ flat_map-append shown_byte (take i chunk) (get_or chunk i 0 ∷ []) ∙ ap (λ last. flat_map shown_byte (take i chunk) ++ last) (append-nil (shown_byte (get_or chunk i 0))))
 
 pub quoted_hex : (start front line bytes : List ℕ) (hex : Bool) → hex ≡ true → front ≡ start ++ codes "0x" → line ≡ front ++ encode_lower bytes → line ≡ start ++ quoted hex bytes
 unfolding quoted

@@ -1,15 +1,21 @@
 //! Bytes as they are shown: in hexadecimal, or between quotation marks.
-ghost use Rattle.std.specs.Prelude.{◌≡◌, ◌≢◌, ◌++◌, ◌∷◌, [], IfOk, OnOk, flat_map, codes, take, drop, length, ◌<◌, ◌≤◌};
-ghost use Rattle.std.specs.List.{prefix_len};
+ghost use Rattle.std.specs.Prelude.{◌≡◌, ◌≢◌, ◌*◌, ◌++◌, IfOk, OnOk, flat_map, take, length, ◌<◌, ◌≤◌};
+ghost use Rattle.std.specs.List.{list_all};
 ghost use Rattle.hex.specs.Hex.{encode_lower};
 ghost use Rattle.rk_bytes.specs.Model.Lines.{quoted, shown_byte, stands_for_itself};
+
+mod table;
 
 use crate::Line;
 use rk_bytes::{Bytes, Memory};
 use std::alloc::Global;
+use table::SHOWN;
 
-/// How many bytes are spelled in hexadecimal at once.
+/// How many bytes are spelled in hexadecimal, or shown between quotation marks, at once.
 const CHUNK_LEN: usize = 32;
+
+/// How many bytes a byte is shown as at most.
+const SHOWN_LEN: usize = 4;
 
 /// Bytes as they are shown: in hexadecimal after `0x`, or between quotation marks. `Memory` comes only
 /// where memory runs out.
@@ -62,31 +68,70 @@ impl Line {
         }
     }
 
-    /// Puts the bytes at the end as they stand between quotation marks, run by run of those that stand
-    /// for themselves.
+    /// Puts the bytes at the end as they stand between quotation marks, those of a chunk of bytes at once.
     fn put_shown(&mut self, bytes: &[u8]) -> Result<(), Memory>
         ensures { OnOk result (self.new ≡ self.old ++ flat_map shown_byte bytes.now) }
     {
         let mut rest = bytes;
-        loop {
-            let (run, others) = split_run(rest);
-            self.put(run)?;
-            let Some((byte, after)) = others.split_first() else {
-                return Ok(());
-            };
-            self.put_escaped(*byte)?;
-            rest = after;
+        while !rest.is_empty() {
+            let (chunk, others) = split_chunk(rest);
+            self.put_shown_chunk(chunk)?;
+            rest = others;
         }
+        Ok(())
     }
 
-    /// Puts a byte that doesn't stand for itself at the end.
-    #[tactic(auto, unfolding(hex::specs::Hex::encode_with))]
-    fn put_escaped(&mut self, byte: u8) -> Result<(), Memory>
-        ensures { OnOk result (self.new ≡ self.old ++ (codes "\\x" ++ encode_lower (byte ∷ []))) }
+    /// Puts a chunk of bytes at the end as they stand between quotation marks.
+    fn put_shown_chunk(&mut self, chunk: &[u8]) -> Result<(), Memory>
+        requires { length chunk.now ≤ CHUNK_LEN }
+        ensures { OnOk result (self.new ≡ self.old ++ flat_map shown_byte chunk.now) }
     {
-        let (high, low) = (byte / 16, byte % 16);
-        self.put(&[b'\\', b'x', DIGITS[high as usize], DIGITS[low as usize]])
+        if all_stand_for_themselves(chunk) {
+            return self.put(chunk);
+        }
+        let mut buffer = [0; SHOWN_LEN * CHUNK_LEN];
+        let len = show(chunk, &mut buffer);
+        self.put(&buffer[..len])
     }
+}
+
+/// Writes the bytes of a chunk to the front of the buffer as they stand between quotation marks, and says
+/// how many bytes that takes.
+fn show(chunk: &[u8], buffer: &mut [u8; SHOWN_LEN * CHUNK_LEN]) -> usize
+    requires { length chunk.now ≤ CHUNK_LEN }
+    ensures within { result ≤ SHOWN_LEN * CHUNK_LEN }
+    ensures shown { take result buffer.new ≡ flat_map shown_byte chunk.now }
+{
+    let mut len = 0;
+    for byte in chunk {
+        let (text, text_len) = shown(*byte);
+        buffer[len..len + SHOWN_LEN].copy_from_slice(&text);
+        len += text_len;
+    }
+    len
+}
+
+/// What a byte is shown as between quotation marks: a front of these bytes, and how long it is.
+#[inline(always)]
+fn shown(byte: u8) -> ([u8; SHOWN_LEN], usize)
+    ensures within { result.1 ≤ SHOWN_LEN }
+    ensures shown { take result.1 result.0 ≡ shown_byte byte }
+{
+    let text = SHOWN[byte as usize];
+    let len = if text[1] == 0 { 1 } else { SHOWN_LEN };
+    (text, len)
+}
+
+/// Whether each of the bytes stands for itself between quotation marks. All are looked at, in place of
+/// those before the first that doesn't, so that many are tested at once.
+fn all_stand_for_themselves(bytes: &[u8]) -> bool
+    ensures { result ≡ list_all stands_for_itself bytes.now }
+{
+    let mut all = true;
+    for byte in bytes {
+        all &= stands_for_itself(*byte);
+    }
+    all
 }
 
 /// The bytes of the first chunk, which is shorter only where they end, and the others.
@@ -102,33 +147,9 @@ fn split_chunk(bytes: &[u8]) -> (&[u8], &[u8])
     }
 }
 
-/// The bytes at the front that stand for themselves between quotation marks, and the others.
-fn split_run(bytes: &[u8]) -> (&[u8], &[u8])
-    ensures run { result.0.now ≡ take (prefix_len stands_for_itself bytes.now) bytes.now }
-    ensures others { result.1.now ≡ drop (prefix_len stands_for_itself bytes.now) bytes.now }
-{
-    bytes.split_at(plain_len(bytes))
-}
-
-/// How many bytes at the front stand for themselves between quotation marks.
-fn plain_len(bytes: &[u8]) -> usize
-    ensures value { result ≡ prefix_len stands_for_itself bytes.now }
-    ensures within { result ≤ length bytes.now }
-{
-    for (i, byte) in bytes.iter().enumerate() {
-        if !stands_for_itself(*byte) {
-            return i;
-        }
-    }
-    bytes.len()
-}
-
 /// Whether the byte stands for itself between quotation marks.
 fn stands_for_itself(byte: u8) -> bool
     ensures { result ≡ stands_for_itself byte }
 {
     matches!(byte, b' '..=b'~') && byte != b'"' && byte != b'\\'
 }
-
-/// The digits by their values.
-const DIGITS: [u8; 16] = *b"0123456789abcdef";
