@@ -5,5 +5,4 @@ mod BatchLines
 mod Dumping
 mod Blocks
 mod Dumps
-mod Names
 mod Faults

@@ -1,5 +1,4 @@
 ghost use Rattle.std.specs.Prelude.{◌≡◌, IfOk, string_bytes};
-ghost use Rattle.rk_bytes.specs.Model.FileNames.{log_name};
 ghost use Rattle.rk_bytes.specs.Model.Lines.{refusal_line, no_log_words};
 ghost use Rattle.rk_ldb.specs.Stops.{TookLine, OutputStops};
 
@@ -16,13 +15,6 @@ pub(crate) const DISK_FAULT_LINE: &[u8] = b"fault: disk\n";
 
 /// The line that ends the output after want of memory.
 pub(crate) const MEMORY_FAULT_LINE: &[u8] = b"fault: memory\n";
-
-/// The name of the log with this number.
-pub(crate) fn log_name(alloc: Global, number: u64) -> Result<String, AllocError>
-    ensures { IfOk result (λ name. string_bytes name ≡ log_name number) }
-{
-    format!(in alloc; "{number:06}.log")
-}
 
 /// The line that refuses a log that isn't there.
 pub(crate) fn no_log_line(alloc: Global, number: u64) -> Result<String, AllocError>

@@ -11,12 +11,13 @@ ghost use Rattle.rk_ldb.specs.Answers.{IsCommandAnswer};
 ghost use Rattle.rk_ldb.specs.Stops.{TookUpTo, DiskCounts, SinkCounts, DiskStops, OutputStops};
 ghost use Rattle.rk_ldb.specs.Wrote.{dump_lines, WritesBlock, IsBlock};
 
-use crate::lines::{log_name, no_log_line, write_line};
+use crate::lines::{no_log_line, write_line};
 use crate::stop::Stop;
 use rk_batch::BatchView;
 use rk_bytes::model::Status;
 use rk_disk::{Disk, Sink, read_piece};
 use rk_log::{BLOCK_LEN, FeedItem, Item, LogFeed};
+use rk_names::{FileName, write_name};
 use rk_text::Line;
 use std::alloc::Global;
 
@@ -36,7 +37,7 @@ pub(crate) fn dump_wal<D: Disk, S: Sink>(
     ensures output_count { SinkCounts (S.faults out.old) (S.faults out.new) result }
     ensures left { IsLeft (D.told disk.old) (D.told disk.new) }
 {
-    let name = log_name(alloc, number)?;
+    let name = write_name(alloc, &FileName::Log(number))?;
     match disk.size(name.as_str())? {
         Some(size) => {
             write_log(alloc, name.as_str(), number, size, hex, disk, out)?;

@@ -22,11 +22,11 @@ returns-in_err-write_log-in-Some-clause-lines g c =
     let name = c.as_str-in-Some.result.now in
     let stop = c.in_err-write_log-in-Some.field-0.0 in
     let stopped = err_from_is_err_and c.from_residual-in_err-write_log-in-Some.result c.from_residual-in_err-write_log-in-Some.ensures.1 in
-    let sized = subst (λ name. IfSome (contents_told told) (λ files. Some c.in-Some.size ≡ option_map length (get files name))) (c.as_str.ensures.value ∙ sym c.as_str-in-Some.ensures.value)
+    let sized = subst (λ name. IfSome (contents_told told) (λ files. Some c.in-Some.size ≡ option_map length (get files name))) (c.as_str.ensures ∙ sym c.as_str-in-Some.ensures)
     (subst (λ size. IfSome (contents_told told) (λ files. size ≡ option_map length (get files c.as_str.result.now))) c.in-Some.is c.in_ok-size.ensures.size) in
     let lines = subst (λ told. OfFile told name c.in-Some.size (λ bytes. TookUpTo {T = Unit {0}} from now (dump_lines c.args.hex (log_items c.args.number bytes)) (Err stop))) c.in_ok-size.ensures.left
     c.in_err-write_log-in-Some.ensures.lines in
-    found_log told c.args.number c.in-Some.size c.args.hex name (λ lines. TookUpTo from now lines c.from_residual-in_err-write_log-in-Some.result) (c.as_str-in-Some.ensures.value ∙ c.in_ok-name.ensures) sized
+    found_log told c.args.number c.in-Some.size c.args.hex name (λ lines. TookUpTo from now lines c.from_residual-in_err-write_log-in-Some.result) (c.as_str-in-Some.ensures ∙ c.in_ok-name.ensures.printed) sized
     (OfFile-with told name c.in-Some.size (λ bytes. TookUpTo {T = Unit {0}} from now (dump_lines c.args.hex (log_items c.args.number bytes)) (Err stop))
     (λ bytes. TookUpTo from now (dump_lines c.args.hex (log_items c.args.number bytes)) c.from_residual-in_err-write_log-in-Some.result)
     (λ bytes took. subst (TookUpTo from now (dump_lines c.args.hex (log_items c.args.number bytes))) (sym (stopped.1 ∙ ap Err stopped.2))
@@ -39,7 +39,7 @@ returns-in_err-write_line-in-None-clause-lines g c =
     let now = g.S.Sink.taken c.write_line.new.out in
     let line = refusal_line (no_log_words c.args.number) in
     let stopped = err_from_is_err_and c.from_residual-in_err-write_line-in-None.result c.from_residual-in_err-write_line-in-None.ensures.1 in
-    absent_log told c.args.number c.args.hex c.as_str.result.now (λ lines. TookUpTo from now lines c.from_residual-in_err-write_line-in-None.result) (c.as_str.ensures.value ∙ c.in_ok-name.ensures)
+    absent_log told c.args.number c.args.hex c.as_str.result.now (λ lines. TookUpTo from now lines c.from_residual-in_err-write_line-in-None.result) (c.as_str.ensures ∙ c.in_ok-name.ensures.printed)
     (subst (λ size. IfSome (contents_told told) (λ files. size ≡ option_map length (get files c.as_str.result.now))) c.in-None.is c.in_ok-size.ensures.size)
     (subst (TookUpTo from now (line ∷ [])) (sym (stopped.1 ∙ ap Err stopped.2))
     (Wrote-line-stopped Status from from now (line ∷ []) [] line c.as_bytes.result.now c.in_err-write_line-in-None.field-0.0 (Wrote-nothing from (line ∷ []))
@@ -51,6 +51,6 @@ returns-clause-lines g c =
     let from = g.S.Sink.taken c.args.out.now in
     let now = g.S.Sink.taken c.write_line.new.out in
     let line = refusal_line (no_log_words c.args.number) in
-    absent_log told c.args.number c.args.hex c.as_str.result.now (λ lines. TookUpTo {T = Status} from now lines (Ok Refused)) (c.as_str.ensures.value ∙ c.in_ok-name.ensures)
+    absent_log told c.args.number c.args.hex c.as_str.result.now (λ lines. TookUpTo {T = Status} from now lines (Ok Refused)) (c.as_str.ensures ∙ c.in_ok-name.ensures.printed)
     (subst (λ size. IfSome (contents_told told) (λ files. size ≡ option_map length (get files c.as_str.result.now))) c.in-None.is c.in_ok-size.ensures.size)
     (only_line Status from now (line ∷ []) line c.as_bytes.result.now (Ok Refused) (λ i. line ∷ []) (c.as_bytes.ensures.value ∙ c.in_ok-line-in-None.ensures) c.in_ok-write_line-in-None.ensures.line)
