@@ -1,0 +1,13 @@
+//! What a table holds beside its data: its footer, the trailers of its blocks, its index, its properties
+//! and its range deletions (RocksDB's wiki, "Rocksdb BlockBasedTable Format").
+#![tactic(auto)]
+
+mod footer;
+mod handle;
+
+pub use footer::read_footer;
+pub use handle::read_handle;
+pub use rk_bytes::model::{
+    Footer, FooterFault, Handle, IndexEntry, IndexFault, Property, RangeDel, RangeFault, SumKind,
+    TrailerFault,
+};
