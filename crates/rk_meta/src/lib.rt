@@ -4,10 +4,18 @@
 
 mod footer;
 mod handle;
+mod index;
+mod properties;
+mod ranges;
+mod want;
 
 pub use footer::read_footer;
 pub use handle::read_handle;
+pub use index::read_index;
+pub use properties::{PropFault, read_properties};
+pub use ranges::read_ranges;
 pub use rk_bytes::model::{
     Footer, FooterFault, Handle, IndexEntry, IndexFault, Property, RangeDel, RangeFault, SumKind,
     TrailerFault,
 };
+pub use want::Want;
