@@ -1,1 +1,2 @@
 mod FooterLemmas
+mod TrailerLemmas

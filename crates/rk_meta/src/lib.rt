@@ -7,6 +7,7 @@ mod handle;
 mod index;
 mod properties;
 mod ranges;
+mod trailer;
 mod want;
 
 pub use footer::read_footer;
@@ -18,4 +19,5 @@ pub use rk_bytes::model::{
     Footer, FooterFault, Handle, IndexEntry, IndexFault, Property, RangeDel, RangeFault, SumKind,
     TrailerFault,
 };
+pub use trailer::checked_block;
 pub use want::Want;
