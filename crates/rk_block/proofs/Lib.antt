@@ -1,0 +1,5 @@
+pub mod Callers
+mod EntryLemmas
+mod ReadLemmas
+mod StepLemmas
+mod WalkLemmas
