@@ -1,2 +1,5 @@
+mod DeltaLemmas
 mod FooterLemmas
+mod KeptLemmas
 mod TrailerLemmas
+mod WalkLemmas

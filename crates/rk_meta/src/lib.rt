@@ -2,12 +2,14 @@
 //! and its range deletions (RocksDB's wiki, "Rocksdb BlockBasedTable Format").
 #![tactic(auto)]
 
+mod delta;
 mod footer;
 mod handle;
 mod index;
 mod properties;
 mod ranges;
 mod trailer;
+mod walk;
 mod want;
 
 pub use footer::read_footer;

@@ -7,7 +7,7 @@ use crate::{Handle, SumKind, TrailerFault};
 use rk_sum::block_sum;
 
 /// How many bytes follow a block: its type and its checksum.
-const TRAILER_LEN: usize = 5;
+pub(crate) const TRAILER_LEN: usize = 5;
 
 /// The block of a handle, whose trailer follows it within the bytes. `OutOfFile` comes where the bytes end
 /// before the trailer does, then `Checksum` where the stored sum isn't that of the block and its type, and
