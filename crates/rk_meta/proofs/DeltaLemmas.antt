@@ -1,23 +1,22 @@
 -- A walk over the entries of an index whose handles are delta-encoded.
 use Rattle.std.specs.Prelude.{not, ◌==◌, if◌then◌else◌}
-use Rattle.std.proofs.Common.{◌≡◌, ◌⊎◌, ℕ, zero, suc, ◌+◌, ◌-◌, ◌<◌, ◌≤◌, Bool, true, false, List, [], ◌∷◌, ◌++◌, length, drop, map, Result, Ok, Err, refl, sym, ap, ◌∙◌, subst, inl, inr, arith, append_assoc, length-drop}
+use Rattle.std.proofs.Common.{◌≡◌, ◌⊎◌, ℕ, zero, suc, ◌+◌, ◌-◌, ◌<◌, ◌≤◌, Bool, true, false, List, [], ◌∷◌, ◌++◌, length, map, Result, Ok, Err, refl, sym, ap, ◌∙◌, subst, inl, inr, arith, append_assoc, length-drop}
 use Rattle.std.proofs.Math.Dec.{eqb-suc-zero}
 use Rattle.std.proofs.lemmas.List.{append-nil}
-use Rattle.rk_bytes.specs.declared.model.block.BlockFault.{BlockFault}
-use Rattle.rk_bytes.specs.declared.model.block.BlockFault.TheVariants.{BadRestarts, BadEntry}
+use Rattle.rk_bytes.specs.declared.model.block.BlockFault.TheVariants.{BadRestarts}
 use Rattle.rk_bytes.specs.declared.model.block.Handle.{Handle}
 use Rattle.rk_bytes.specs.declared.model.block.IndexEntry.{IndexEntry}
 use Rattle.rk_bytes.specs.declared.model.block.IndexFault.{IndexFault}
 use Rattle.rk_bytes.specs.declared.model.block.IndexFault.TheVariants.{Block, BadHandle, Memory}
 use Rattle.rk_bytes.specs.declared.model.number.NumFault.{NumFault}
-use Rattle.rk_bytes.specs.Model.Numbers.{Read, ◌>>=◌}
-use Rattle.rk_bytes.specs.Model.BlockEntries.{Entry, with_fault, entries_after, no_entry, right_restarts, delta_key_at, delta_value_at, next_delta_entry, no_handle, index_entry}
-use Rattle.rk_bytes.specs.Reading.{Reading, IsFurther, rest_of, read_by}
+use Rattle.rk_bytes.specs.Model.Numbers.{◌>>=◌}
+use Rattle.rk_bytes.specs.Model.BlockEntries.{Entry, with_fault, entries_after, no_entry, right_restarts, delta_value_at, next_delta_entry, no_handle, index_entry}
+use Rattle.rk_bytes.specs.Reading.{Reading, rest_of}
 use Rattle.rk_bytes.proofs.Callers.Readings.{both_steps, first_step}
 use Rattle.rk_block.specs.Read.{AreBetween, last_of}
 use Rattle.rk_block.specs.Restarts.{RestartsSeen, starts_at_zero, restarts_of, restarts_after, are_met}
 use Rattle.rk_block.proofs.Callers.RestartLemmas.{offsets_left, offsets_left-push, AreBetween-ordered, AreBetween-push, has_entries, right_restarts-walk}
-use Rattle.rk_meta.specs.Delta.{key_read, delta_key, delta_index_in}
+use Rattle.rk_meta.specs.Delta.{delta_key, delta_index_in}
 
 -- before any entry
 abbrev start : Entry Handle

@@ -1,3 +1,4 @@
+mod BlockLemmas
 mod DeltaLemmas
 mod FooterLemmas
 mod KeptLemmas

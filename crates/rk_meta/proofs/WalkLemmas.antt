@@ -1,16 +1,15 @@
 -- What an entry is depends on its key and its value alone.
 use Rattle.std.specs.Prelude.{option_map, ok_or}
-use Rattle.std.proofs.Common.{◌≡◌, ◌⊎◌, ℕ, Bool, true, false, cond, List, Option, Some, None, Result, Ok, Err, refl, sym, ap, ◌∙◌, inl, inr}
+use Rattle.std.proofs.Common.{◌≡◌, ◌⊎◌, ℕ, List, Option, Some, None, Result, Ok, Err, refl, sym, ap, ◌∙◌, inl, inr}
 use Rattle.rk_bytes.specs.declared.model.block.Handle.{Handle}
 use Rattle.rk_bytes.specs.declared.model.block.IndexEntry.{IndexEntry}
 use Rattle.rk_bytes.specs.declared.model.block.IndexFault.{IndexFault}
 use Rattle.rk_bytes.specs.declared.model.block.IndexFault.TheVariants.{BadHandle}
-use Rattle.rk_bytes.specs.declared.model.block.RangeFault.TheVariants.{BadKey}
 use Rattle.rk_bytes.specs.declared.model.key.KeyFault.{KeyFault}
 use Rattle.rk_bytes.specs.Model.Numbers.{◌>>=◌}
 use Rattle.rk_bytes.specs.Model.InternalKey.{KeyParts, key_parts}
-use Rattle.rk_bytes.specs.Model.BlockEntries.{Entry, handle_at, whole, with_value, with_handle, index_entry}
-use Rattle.rk_bytes.specs.Model.TableStatus.{is_range_deletion, range_of}
+use Rattle.rk_bytes.specs.Model.BlockEntries.{Entry, handle_at, whole, with_value, index_entry}
+use Rattle.rk_bytes.specs.Model.TableStatus.{range_of}
 use Rattle.rk_meta.specs.Walk.{range_in, whole_entry, entry_with}
 
 -- what isn't one of two faults

@@ -52,7 +52,10 @@ fn range_of(alloc: Global, key: &[u8], end: &[u8]) -> Result<RangeDel, RangeFaul
     if parsed.kind != Kind::RangeDeletion {
         return Err(RangeFault::BadKey);
     }
-    let (Ok(start), Ok(end)) = (Bytes::copy_of(alloc, parsed.user), Bytes::copy_of(alloc, end)) else {
+    let (Ok(start), Ok(end)) = (
+        Bytes::copy_of(alloc, parsed.user),
+        Bytes::copy_of(alloc, end),
+    ) else {
         return Err(RangeFault::Memory);
     };
     Ok(RangeDel {

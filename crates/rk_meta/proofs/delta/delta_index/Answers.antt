@@ -1,5 +1,5 @@
 use Rattle.std.specs.Prelude.{not}
-use Rattle.std.proofs.Common.{◌+◌, ◌<◌, ◌≤◌, true, false, [], ◌∷◌, ◌++◌, length, Err, sym, ap, ◌∙◌, subst, inl, arith}
+use Rattle.std.proofs.Common.{true, false, [], ◌∷◌, ◌++◌, length, Err, sym, ap, ◌∙◌, subst, inl, arith}
 use Rattle.std.proofs.lemmas.Result.{err_from_is_err_and}
 use Rattle.rk_bytes.specs.Reading.{rest_of}
 use Rattle.rk_bytes.specs.Model.BlockEntries.{no_handle}

@@ -1,7 +1,6 @@
-use Rattle.std.proofs.Common.{◌≡◌, ◌++◌, ◌∷◌, [], Some, None, Ok, Err, sym, ap, ◌∙◌, subst}
-use Rattle.rk_bytes.specs.declared.model.block.IndexFault.TheVariants.{BadHandle}
+use Rattle.std.proofs.Common.{Some, sym, ◌∙◌, subst}
 use Rattle.rk_meta.specs.Walk.{Passes, whole_entry}
-use Rattle.rk_meta.proofs.KeptLemmas.{IsKept, IsKept-more, IsKept-fault}
+use Rattle.rk_meta.proofs.KeptLemmas.{IsKept, IsKept-more}
 use Rattle.rk_meta.proofs.WalkLemmas.{whole_entry-handle}
 use Rattle.rk_meta.proofs.index.whole_index.Goals as goal
 

@@ -1,7 +1,7 @@
-use Rattle.std.proofs.Common.{◌≡◌, ◌⊎◌, ◌++◌, ◌∷◌, [], Ok, Err, sym, ap, ◌∙◌, subst, inl}
+use Rattle.std.proofs.Common.{sym, ◌∙◌, subst}
 use Rattle.rk_bytes.specs.declared.model.block.RangeFault.TheVariants.{Memory}
 use Rattle.rk_meta.specs.Walk.{Passes, range_in, entry_with}
-use Rattle.rk_meta.proofs.KeptLemmas.{IsKept, IsKept-more, IsKept-fault, IsKept-end}
+use Rattle.rk_meta.proofs.KeptLemmas.{IsKept, IsKept-more}
 use Rattle.rk_meta.proofs.WalkLemmas.{unless, range_in-entry}
 use Rattle.rk_meta.proofs.ranges.ranges_in.Goals as goal
 
