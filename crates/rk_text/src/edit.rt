@@ -1,6 +1,6 @@
 //! The lines of version edits.
-ghost use Rattle.std.specs.Prelude.{◌≡◌, ◌≤◌, ◌++◌, List, length, map, codes, false, IfOk, OnOk};
-ghost use Rattle.rk_bytes.specs.Model.VersionEdit.{Field as StatedField, compact_cursor, delete_file, add_file, wal_add, ignored};
+ghost use Rattle.std.specs.Prelude.{◌≡◌, ◌≤◌, ◌++◌, length, map, codes, false, IfOk, OnOk};
+ghost use Rattle.rk_bytes.specs.Model.VersionEdit.{compact_cursor, delete_file, add_file, wal_add, ignored};
 ghost use Rattle.rk_bytes.specs.Model.Lines.{inner_line, bad_line, key_text, quoted, then_number, edit_fault_words, field_words, seqs_words, synced_words, edit_lines};
 ghost use Rattle.rk_bytes.specs.Model.Output.{joined};
 ghost use Rattle.rk_edit.specs.Fields.{new_file, field_of, HasWholeKeys};
