@@ -5,3 +5,4 @@ mod Steps
 mod Tracking
 mod Values
 mod Views
+mod WholeKeys

@@ -1,4 +1,5 @@
 -- What contracts see of a field that is handed out.
+use Rattle.std.specs.Prelude.{◌≤◌, length}
 use Rattle.rk_bytes.specs.Model.VersionEdit.{NewFile, Field, comparator, log_number, next_file, last_sequence, compact_cursor, delete_file, add_file, previous_log, least_log, family, family_add, family_drop, greatest_family, group, wal_add, wal_delete, ignored}
 use Rattle.rk_edit.specs.declared.fields.AddFile.{AddFile as LentFile}
 use Rattle.rk_edit.specs.declared.fields.Field.{Field as LentField}
@@ -27,3 +28,9 @@ field_of (Group left) = group left
 field_of (WalAdd log synced) = wal_add log synced
 field_of (WalDelete log) = wal_delete log
 field_of (Ignored tag bytes) = ignored tag bytes.now
+
+-- the internal keys that a field has are long enough to be such
+abbrev pub HasWholeKeys : Field → Type 0
+HasWholeKeys (compact_cursor level key) = 8 ≤ length key
+HasWholeKeys (add_file file) = (8 ≤ length file.smallest) × (8 ≤ length file.largest)
+HasWholeKeys _ = Unit

@@ -3,7 +3,7 @@ ghost use Rattle.rk_bytes.specs.Model.Numbers.{reads_or, varint32_at};
 ghost use Rattle.rk_bytes.specs.Model.VersionEdit.{Field as StatedField, field_at, edit_fields};
 ghost use Rattle.rk_bytes.specs.Reading.{IsFurther, rest_of};
 ghost use Rattle.rk_edit.specs.Before.{Tells};
-ghost use Rattle.rk_edit.specs.Fields.{field_of};
+ghost use Rattle.rk_edit.specs.Fields.{field_of, HasWholeKeys};
 ghost use Rattle.rk_edit.specs.Read.{read_as, whether_read};
 
 use crate::before::FamilyFields;
@@ -44,6 +44,7 @@ impl<'a> EditView<'a> {
     /// The next field, or `None` where none is left. Takes no memory.
     pub fn next_field(&mut self) -> Option<Field<'a>>
         ensures given { IfSome result (λ field. self.old ≡ field_of field ∷ self.new) }
+        ensures whole { IfSome result (λ field. HasWholeKeys (field_of field)) }
         ensures none { IfNone result ((self.old ≡ []) × (self.new ≡ [])) }
     {
         if self.rest.is_empty() {

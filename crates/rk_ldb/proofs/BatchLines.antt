@@ -1,11 +1,8 @@
--- The lines of a record's payload.
+-- The lines of a write batch.
 use Rattle.std.proofs.Common.{◌≡◌, ℕ, Bool, List, [], ◌∷◌, map, Result, Ok, Err, refl, sym, ap, ◌∙◌}
 use Rattle.rk_bytes.specs.declared.model.batch.BatchFault.{BatchFault}
 use Rattle.rk_bytes.specs.Model.WriteBatch.{Batch, batch_of}
-use Rattle.rk_bytes.specs.Model.Lines.{item_line, batch_line, part_line, bad_line, batch_fault_words, batch_lines}
-use Rattle.std.specs.Prelude.{codes}
-use Rattle.rk_bytes.specs.Model.LogItems.{Item, rec, gap, end}
-use Rattle.rk_bytes.specs.Model.Output.{item_lines}
+use Rattle.rk_bytes.specs.Model.Lines.{batch_line, part_line, bad_line, batch_fault_words, batch_lines}
 use Rattle.rk_batch.specs.Seen.{BatchSeen}
 use Rattle.rk_batch.specs.Read.{ReadAs}
 
@@ -34,16 +31,3 @@ bad_lines hex payload fault read = these_lines hex payload ∙ by (batch_of payl
     by : (r : Result Batch BatchFault) → ReadAs (Err fault) r → lines_of hex r ≡ bad_line (batch_fault_words fault) ∷ []
     by (Ok batch) same = absurd same
     by (Err why) same = ap (λ why. bad_line (batch_fault_words why) ∷ []) (sym same)
-
--- ---- the lines of an item
-
--- those after the first
-abbrev pub later_lines : Bool → Item → List (List ℕ)
-later_lines hex (rec payload place) = batch_lines hex payload
-later_lines hex (gap why place) = []
-later_lines hex (end kind place) = []
-
-pub first_line : (hex : Bool) (item : Item) → item_lines (codes "record") (batch_lines hex) item ≡ item_line (codes "record") item ∷ later_lines hex item
-first_line hex (rec payload place) = refl
-first_line hex (gap why place) = refl
-first_line hex (end kind place) = refl

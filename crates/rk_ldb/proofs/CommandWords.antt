@@ -1,5 +1,5 @@
 -- The words of the commands that the program has.
-use Rattle.std.proofs.Common.{◌≡◌, ℕ, ◌<◌, ◌≤◌, ◌^◌, Bool, true, false, List, ◌∷◌, length, get_or, drop, Option, Some, None, MatchOption, refl, sym, ap, ◌∙◌, arith}
+use Rattle.std.proofs.Common.{◌≡◌, ℕ, ◌<◌, ◌≤◌, ◌^◌, Bool, true, false, List, [], ◌∷◌, length, get_or, drop, Option, Some, None, MatchOption, refl, sym, ap, ◌∙◌, arith}
 use Rattle.std.specs.Prelude.{codes, decimal, option_map, not}
 use Rattle.std.specs.Str.{bytes_eq}
 use Rattle.std.proofs.lemmas.Bool.{true≢false}
@@ -8,66 +8,66 @@ use Rattle.std.proofs.lemmas.Slice.Eq.{bytes_eq-Decides}
 use Rattle.std.specs.Option.{option_and_then}
 use Rattle.rk_bytes.specs.Model.Grammar.{Command, scan, get, families, manifest_dump, dump_wal, check, repair, sst, drill, hex_of, number_of, dump_wal_of, command_of}
 use Rattle.rk_bytes.proofs.Callers.CommandLemmas.{command_of-SpellsCommand, number_spelled, number_read}
-use Rattle.rk_ldb.specs.Built.{built, built_command}
+use Rattle.rk_ldb.specs.Built.{built, built_command, manifest_dump_of}
 
-only_dumps : (command : Option Command) → ((n : ℕ) (hex : Bool) → command ≡ Some (dump_wal n hex) → ⊥) → built command ≡ None
-only_dumps None other = refl
-only_dumps (Some (scan family how from to hex)) other = refl
-only_dumps (Some (get key family how hex)) other = refl
-only_dumps (Some families) other = refl
-only_dumps (Some (manifest_dump hex)) other = refl
-only_dumps (Some (dump_wal n hex)) other = absurd (other n hex refl)
-only_dumps (Some (check how)) other = refl
-only_dumps (Some repair) other = refl
-only_dumps (Some (sst n part hex)) other = refl
-only_dumps (Some (drill n)) other = refl
+only_built : (command : Option Command) → ((hex : Bool) → command ≡ Some (manifest_dump hex) → ⊥) → ((n : ℕ) (hex : Bool) → command ≡ Some (dump_wal n hex) → ⊥) → built command ≡ None
+only_built None manifest log = refl
+only_built (Some (scan family how from to hex)) manifest log = refl
+only_built (Some (get key family how hex)) manifest log = refl
+only_built (Some families) manifest log = refl
+only_built (Some (manifest_dump hex)) manifest log = absurd (manifest hex refl)
+only_built (Some (dump_wal n hex)) manifest log = absurd (log n hex refl)
+only_built (Some (check how)) manifest log = refl
+only_built (Some repair) manifest log = refl
+only_built (Some (sst n part hex)) manifest log = refl
+only_built (Some (drill n)) manifest log = refl
 
--- there are too few words
-pub few_words : (words : List (List ℕ)) → length words < 2 → built_command words ≡ None
-few_words words few = only_dumps (command_of words) (λ n hex is.
-    let spelled = ((command_of-SpellsCommand words (dump_wal n hex)).0 is).1 in
-    let many = ap length spelled in omega (arith, many, few))
+-- there is no word
+pub no_words : (words : List (List ℕ)) → words ≡ [] → built_command words ≡ None
+unfolding command_of
+no_words words none = ap built_command none
 
 -- the first word is another command's
-pub other_verb : (words : List (List ℕ)) (verb : List ℕ) → verb ≡ get_or words 0 verb → (verb ≡ codes "dump_wal" → ⊥) → built_command words ≡ None
-other_verb words verb first other = only_dumps (command_of words) (λ n hex is.
+pub other_words : (words arguments : List (List ℕ)) (verb : List ℕ) → words ≡ verb ∷ arguments → (verb ≡ codes "manifest_dump" → ⊥) → (verb ≡ codes "dump_wal" → ⊥) → built_command words ≡ None
+other_words words arguments verb split manifest log = only_built (command_of words) (λ hex is.
+    let spelled = ((command_of-SpellsCommand words (manifest_dump hex)).0 is) in
+    manifest (ap (λ words. get_or words 0 verb) (sym split ∙ spelled))) (λ n hex is.
     let spelled = ((command_of-SpellsCommand words (dump_wal n hex)).0 is).1 in
-    other (first ∙ ap (λ words. get_or words 0 verb) spelled))
+    log (ap (λ words. get_or words 0 verb) (sym split ∙ spelled)))
+
+built_manifest : (hex : Option Bool) → built (option_map manifest_dump hex) ≡ option_map manifest_dump hex
+built_manifest None = refl
+built_manifest (Some hex) = refl
+
+-- what the words after `manifest_dump` say
+pub manifest_words : (words arguments : List (List ℕ)) → words ≡ codes "manifest_dump" ∷ arguments → built_command words ≡ manifest_dump_of arguments
+unfolding command_of
+manifest_words words arguments split = ap built_command split ∙ built_manifest (hex_of arguments)
 
 built_dump : (number : Option ℕ) (hex : Option Bool) → built (option_and_then (λ n. option_map (dump_wal n) hex) number) ≡ option_and_then (λ n. option_map (dump_wal n) hex) number
 built_dump None hex = refl
 built_dump (Some n) None = refl
 built_dump (Some n) (Some hex) = refl
 
+built_log : (arguments : List (List ℕ)) → built (dump_wal_of arguments) ≡ dump_wal_of arguments
+unfolding dump_wal_of
+built_log [] = refl
+built_log (number ∷ words) = built_dump (number_of number) (hex_of words)
+
 -- what the words after `dump_wal` say
-pub dump_words : (words options : List (List ℕ)) (number : List ℕ) → words ≡ codes "dump_wal" ∷ number ∷ options
-    → built_command words ≡ option_and_then (λ n. option_map (dump_wal n) (hex_of options)) (number_of number)
-unfolding dump_wal_of command_of
-dump_words words options number is = ap built_command is ∙ built_dump (number_of number) (hex_of options)
+pub log_words : (words arguments : List (List ℕ)) → words ≡ codes "dump_wal" ∷ arguments → built_command words ≡ dump_wal_of arguments
+unfolding command_of
+log_words words arguments split = ap built_command split ∙ built_log arguments
 
 -- the same, where these are the number and the choice of the form
-pub dump_command : (words options : List (List ℕ)) (number : List ℕ) (n : Option ℕ) (hex : Option Bool) → words ≡ codes "dump_wal" ∷ number ∷ options
-    → number_of number ≡ n → hex_of options ≡ hex → built_command words ≡ option_and_then (λ n. option_map (dump_wal n) hex) n
-dump_command words options number n hex is count form = dump_words words options number is ∙ (λ i. option_and_then (λ n. option_map (dump_wal n) (form i)) (count i))
+pub log_command : (arguments options : List (List ℕ)) (number : List ℕ) (n : Option ℕ) (hex : Option Bool) → arguments ≡ number ∷ options
+    → number_of number ≡ n → hex_of options ≡ hex → dump_wal_of arguments ≡ option_and_then (λ n. option_map (dump_wal n) hex) n
+unfolding dump_wal_of
+log_command arguments options number n hex split count form = ap dump_wal_of split ∙ (λ i. option_and_then (λ n. option_map (dump_wal n) (form i)) (count i))
 
--- the words from their items
-pub split_words : (words : List (List ℕ)) (verb number : List ℕ) → 2 ≤ length words → verb ≡ get_or words 0 verb → number ≡ get_or words 1 number → verb ≡ codes "dump_wal"
-    → words ≡ codes "dump_wal" ∷ number ∷ drop 2 words
-split_words words verb number many first second is =
-    drop_more words 0 verb (omega (arith, many)) ∙ ap (λ rest. get_or words 0 verb ∷ rest) (drop_more words 1 number many)
-    ∙ (λ i. (sym first ∙ is) i ∷ sym second i ∷ drop 2 words)
-
-pub differs : (said verb word : List ℕ) → said ≡ verb → not (bytes_eq said word) ≡ true → verb ≡ word → ⊥
-differs said verb word same other is =
-    let equal : bytes_eq said word ≡ true = (bytes_eq-Decides said word).1 (same ∙ is) in
-    true≢false (sym other ∙ ap not equal)
-
-pub agrees : (said verb word : List ℕ) → said ≡ verb → not (bytes_eq said word) ≡ false → verb ≡ word
-agrees said verb word same not_other = sym same ∙ (bytes_eq-Decides said word).0 (by (bytes_eq said word) not_other)
-  where
-    by : (b : Bool) → not b ≡ false → b ≡ true
-    by true e = refl
-    by false e = absurd (true≢false e)
+pub no_number : (arguments : List (List ℕ)) → arguments ≡ [] → dump_wal_of arguments ≡ None
+unfolding dump_wal_of
+no_number arguments none = ap dump_wal_of none
 
 -- a number that is read of a word, or none where it spells none
 pub number_of-read : (word : List ℕ) (read : Option ℕ) → MatchOption read ((n : ℕ) → n < 2 ^ 64 → word ≡ decimal n → ⊥) (λ n. (n < 2 ^ 64) × (word ≡ decimal n)) → read ≡ number_of word

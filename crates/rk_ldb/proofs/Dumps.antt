@@ -1,4 +1,4 @@
--- What is written of a log that is there, or isn't.
+-- What is written of a file that is there, or isn't, and of words.
 use Rattle.std.proofs.Common.{◌≡◌, ℕ, Bool, List, [], ◌∷◌, length, Option, Some, None, refl, sym, subst}
 use Rattle.std.specs.Prelude.{IfSome, option_map}
 use Rattle.std.specs.FinMap.{get}
@@ -6,40 +6,54 @@ use Rattle.rk_bytes.specs.Model.DiskImages.{Directory, Told, contents, contents_
 use Rattle.rk_bytes.specs.Model.FileNames.{log_name}
 use Rattle.rk_bytes.specs.Model.LogItems.{log_items}
 use Rattle.rk_bytes.specs.declared.model.status.Status.TheVariants.{Usage}
-use Rattle.rk_bytes.specs.Model.Grammar.{Command, dump_wal}
-use Rattle.rk_bytes.specs.Model.Lines.{refusal_line, no_log_words, usage_line}
-use Rattle.rk_bytes.specs.Model.Output.{Output, dump_wal_output, command_output}
-use Rattle.rk_ldb.specs.Built.{built_command, output_so_far}
-use Rattle.rk_ldb.specs.Wrote.{dump_lines}
+use Rattle.rk_bytes.specs.Model.Grammar.{Command, manifest_dump, dump_wal}
+use Rattle.rk_bytes.specs.Model.Lines.{usage_line}
+use Rattle.rk_bytes.specs.Model.Output.{Output, dump_wal_output, manifest_dump_output, command_output, written, refused}
+use Rattle.rk_ldb.specs.declared.items.Form.{Form}
+use Rattle.rk_ldb.specs.Built.{built_command, output_of, output_so_far}
+use Rattle.rk_ldb.specs.Wrote.{dump_lines, file_output}
 use Rattle.rk_ldb.proofs.Blocks.{OfFile}
 
-pub found_log : (told : Option Told) (number size : ℕ) (hex : Bool) (name : List ℕ) (P : List (List ℕ) → Type 0) → name ≡ log_name number
-    → IfSome (contents_told told) (λ files. Some size ≡ option_map length (get files name)) → OfFile told name size (λ bytes. P (dump_lines hex (log_items number bytes)))
-    → IfSome (contents_told told) (λ d. P (dump_wal_output number hex (get d (log_name number))).lines)
-found_log None number size hex name P is sized h = tt
-found_log (Some told) number size hex name P is sized h = subst (λ name. P (dump_wal_output number hex (get (contents told.now) name)).lines) is (by (get (contents told.now) name) refl sized)
+-- what is written of a file that is there, where something is of its bytes
+pub found_file : (told : Option Told) (why : List ℕ) (form : Form) (number size : ℕ) (name printed : List ℕ) (P : Output → Type 0) → name ≡ printed
+    → IfSome (contents_told told) (λ files. Some size ≡ option_map length (get files name)) → OfFile told name size (λ bytes. P (written (dump_lines form (log_items number bytes))))
+    → IfSome (contents_told told) (λ d. P (file_output why form number (get d printed)))
+found_file None why form number size name printed P is sized h = tt
+found_file (Some told) why form number size name printed P is sized h = subst (λ name. P (file_output why form number (get (contents told.now) name))) is (by (get (contents told.now) name) refl sized)
   where
-    by : (file : Option (List ℕ)) → get (contents told.now) name ≡ file → Some size ≡ option_map length file → P (dump_wal_output number hex file).lines
+    by : (file : Option (List ℕ)) → get (contents told.now) name ≡ file → Some size ≡ option_map length file → P (file_output why form number file)
     by None found sized = absurd cc
     by (Some bytes) found sized = let len : size ≡ length bytes = cc in h bytes found (sym len)
 
-pub absent_log : (told : Option Told) (number : ℕ) (hex : Bool) (name : List ℕ) (P : List (List ℕ) → Type 0) → name ≡ log_name number
-    → IfSome (contents_told told) (λ files. ◌≡◌ {A = Option ℕ} None (option_map length (get files name))) → P (refusal_line (no_log_words number) ∷ [])
-    → IfSome (contents_told told) (λ d. P (dump_wal_output number hex (get d (log_name number))).lines)
-absent_log None number hex name P is sized h = tt
-absent_log (Some told) number hex name P is sized h = subst (λ name. P (dump_wal_output number hex (get (contents told.now) name)).lines) is (by (get (contents told.now) name) sized)
+-- the same of one that isn't
+pub absent_file : (told : Option Told) (why : List ℕ) (form : Form) (number : ℕ) (name printed : List ℕ) (P : Output → Type 0) → name ≡ printed
+    → IfSome (contents_told told) (λ files. ◌≡◌ {A = Option ℕ} None (option_map length (get files name))) → P (refused why)
+    → IfSome (contents_told told) (λ d. P (file_output why form number (get d printed)))
+absent_file None why form number name printed P is sized h = tt
+absent_file (Some told) why form number name printed P is sized h = subst (λ name. P (file_output why form number (get (contents told.now) name))) is (by (get (contents told.now) name) sized)
   where
-    by : (file : Option (List ℕ)) → ◌≡◌ {A = Option ℕ} None (option_map length file) → P (dump_wal_output number hex file).lines
+    by : (file : Option (List ℕ)) → ◌≡◌ {A = Option ℕ} None (option_map length file) → P (file_output why form number file)
     by None sized = h
     by (Some bytes) sized = absurd cc
 
 -- ---- what is written of words
 
-pub lines_of_dump : (o : Option Directory) (words : List (List ℕ)) (n : ℕ) (hex : Bool) (P : Output → Type 0) → ◌≡◌ {A = Option Command} (Some (dump_wal n hex)) (built_command words)
-    → IfSome o (λ d. P (dump_wal_output n hex (get d (log_name n)))) → IfSome o (λ d. P (output_so_far words d))
+pub output_of_log : (o : Option Directory) (command : Command) (n : ℕ) (hex : Bool) (P : Output → Type 0) → command ≡ dump_wal n hex
+    → IfSome o (λ d. P (dump_wal_output n hex (get d (log_name n)))) → IfSome o (λ d. P (output_of command d))
 unfolding command_output
-lines_of_dump None words n hex P is h = tt
-lines_of_dump (Some d) words n hex P is h = subst (λ command. P (command_output command d)) is h
+output_of_log None command n hex P is h = tt
+output_of_log (Some d) command n hex P is h = subst (λ command. P (output_of command d)) (sym is) h
+
+pub output_of_manifest : (o : Option Directory) (command : Command) (hex : Bool) (P : Output → Type 0) → command ≡ manifest_dump hex
+    → IfSome o (λ d. P (manifest_dump_output hex (get d))) → IfSome o (λ d. P (output_of command d))
+unfolding command_output
+output_of_manifest None command hex P is h = tt
+output_of_manifest (Some d) command hex P is h = subst (λ command. P (output_of command d)) (sym is) h
+
+pub lines_of_command : (o : Option Directory) (words : List (List ℕ)) (command : Command) (P : Output → Type 0) → ◌≡◌ {A = Option Command} (Some command) (built_command words)
+    → IfSome o (λ d. P (output_of command d)) → IfSome o (λ d. P (output_so_far words d))
+lines_of_command None words command P is h = tt
+lines_of_command (Some d) words command P is h = subst (λ command. P (command_output command d)) is h
 
 pub lines_of_usage : (o : Option Directory) (words : List (List ℕ)) (P : Output → Type 0) → ◌≡◌ {A = Option Command} None (built_command words) → P (record { lines = usage_line ∷ []; status = Usage })
     → IfSome o (λ d. P (output_so_far words d))

@@ -1,8 +1,11 @@
+mod BatchLines
+mod Blocks
 mod CommandWords
+mod Dumping
+mod Dumps
+mod EditLines
+mod Faults
+mod ItemLines
+mod ManifestDumps
 mod NumberWords
 mod Taken
-mod BatchLines
-mod Dumping
-mod Blocks
-mod Dumps
-mod Faults

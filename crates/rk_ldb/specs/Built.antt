@@ -1,11 +1,12 @@
 -- The commands that the program has so far. The words of any other are answered like those of none.
-use Rattle.std.specs.Prelude.{ℕ, List, Option, Some, None}
+use Rattle.std.specs.Prelude.{ℕ, List, Option, Some, None, option_map}
 use Rattle.rk_bytes.specs.Model.DiskImages.{Directory}
-use Rattle.rk_bytes.specs.Model.Grammar.{Command, dump_wal, command_of}
+use Rattle.rk_bytes.specs.Model.Grammar.{Command, manifest_dump, dump_wal, hex_of, command_of}
 use Rattle.rk_bytes.specs.Model.Output.{Output, command_output}
 
 -- the command, where the program has it
 abbrev pub built : Option Command → Option Command
+built (Some (manifest_dump hex)) = Some (manifest_dump hex)
 built (Some (dump_wal n hex)) = Some (dump_wal n hex)
 built _ = None
 
@@ -13,6 +14,14 @@ built _ = None
 abbrev pub built_command : List (List ℕ) → Option Command
 built_command words = built (command_of words)
 
+-- what a command writes over a directory
+abbrev pub output_of : Command → Directory → Output
+output_of command d = command_output (Some command) d
+
 -- what the program writes for these words over the directory
 abbrev pub output_so_far : List (List ℕ) → Directory → Output
 output_so_far words d = command_output (built_command words) d
+
+-- the command of the words after `manifest_dump`
+abbrev pub manifest_dump_of : List (List ℕ) → Option Command
+manifest_dump_of words = option_map manifest_dump (hex_of words)

@@ -1,33 +1,49 @@
 ghost use Rattle.std.specs.Prelude.{◌≡◌, ◌⊎◌, ◌↔◌, ◌<◌, IsTrue, length, slice_index};
 ghost use Rattle.std.specs.Option.{option_map};
-ghost use Rattle.rk_bytes.specs.Model.Grammar.{hex_of, number_of};
-ghost use Rattle.rk_ldb.specs.Built.{built_command};
+ghost use Rattle.rk_bytes.specs.Model.Grammar.{hex_of, number_of, dump_wal_of};
+ghost use Rattle.rk_ldb.specs.Built.{built_command, manifest_dump_of};
 ghost use Rattle.rk_ldb.specs.Commands.{told};
 
 use rk_bytes::Text;
 
-/// The command `dump_wal`: the records of the log with this number, and what stands in them. Bytes are
-/// shown in hexadecimal, or between quotation marks.
+/// A command that the program has. Bytes are shown in hexadecimal, or between quotation marks.
 #[derive(Clone, Copy, Debug, PartialEq, Eq)]
-pub(crate) struct DumpWal {
-    pub(crate) number: u64,
-    pub(crate) hex: bool,
+pub(crate) enum Command {
+    /// The records of the manifest that `CURRENT` names, and what stands in them.
+    ManifestDump { hex: bool },
+    /// The records of the log with this number, and what stands in them.
+    DumpWal { number: u64, hex: bool },
 }
 
 /// The command that the words spell, or `None` where they are in the grammar of no command that the
 /// program has.
-pub(crate) fn read_command(words: &[Text]) -> Option<DumpWal>
+pub(crate) fn read_command(words: &[Text]) -> Option<Command>
     ensures { option_map told result ≡ built_command words.now }
 {
-    let [verb, number, options @ ..] = words else {
-        return None;
-    };
-    if verb.as_str() != "dump_wal" {
-        return None;
+    let (verb, arguments) = words.split_first()?;
+    match verb.as_str() {
+        "manifest_dump" => read_manifest_dump(arguments),
+        "dump_wal" => read_dump_wal(arguments),
+        _ => None,
     }
+}
+
+/// The command of the words after `manifest_dump`.
+fn read_manifest_dump(arguments: &[Text]) -> Option<Command>
+    ensures { option_map told result ≡ manifest_dump_of arguments.now }
+{
+    let hex = read_hex(arguments)?;
+    Some(Command::ManifestDump { hex })
+}
+
+/// The command of the words after `dump_wal`.
+fn read_dump_wal(arguments: &[Text]) -> Option<Command>
+    ensures { option_map told result ≡ dump_wal_of arguments.now }
+{
+    let (number, options) = arguments.split_first()?;
     let number = read_number(number.as_str())?;
     let hex = read_hex(options)?;
-    Some(DumpWal { number, hex })
+    Some(Command::DumpWal { number, hex })
 }
 
 /// Whether the last words, which may be none, ask for hexadecimal.

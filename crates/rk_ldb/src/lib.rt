@@ -1,10 +1,16 @@
 //! The commands: `run` takes the words of one, and writes what it says of a disk's files.
 #![tactic(auto)]
 
+mod batch;
 mod command;
+mod dump;
+mod edit;
+mod items;
 mod lines;
 mod log_dump;
+mod manifest_dump;
 mod program;
+mod refusal;
 mod stop;
 
 pub use program::{end_after_want_of_memory, run};

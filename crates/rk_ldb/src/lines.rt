@@ -1,10 +1,7 @@
-ghost use Rattle.std.specs.Prelude.{◌≡◌, IfOk, string_bytes};
-ghost use Rattle.rk_bytes.specs.Model.Lines.{refusal_line, no_log_words};
 ghost use Rattle.rk_ldb.specs.Stops.{TookLine, OutputStops};
 
 use crate::stop::Stop;
 use rk_disk::Sink;
-use std::alloc::{AllocError, Global};
 
 /// The line that answers words that spell no command.
 pub(crate) const USAGE_LINE: &[u8] =
@@ -15,13 +12,6 @@ pub(crate) const DISK_FAULT_LINE: &[u8] = b"fault: disk\n";
 
 /// The line that ends the output after want of memory.
 pub(crate) const MEMORY_FAULT_LINE: &[u8] = b"fault: memory\n";
-
-/// The line that refuses a log that isn't there.
-pub(crate) fn no_log_line(alloc: Global, number: u64) -> Result<String, AllocError>
-    ensures { IfOk result (λ line. string_bytes line ≡ refusal_line (no_log_words number)) }
-{
-    format!(in alloc; "refused: NoLog {number}\n")
-}
 
 /// Writes one line by one `write`.
 pub(crate) fn write_line<S: Sink>(line: &[u8], out: &mut S) -> Result<(), Stop>

@@ -3,12 +3,14 @@ ghost use Rattle.rk_bytes.specs.Model.DiskImages.{IsLeft, Rose, contents_told};
 ghost use Rattle.rk_bytes.specs.Model.Lines.{usage_line, disk_fault_line, memory_fault_line};
 ghost use Rattle.rk_bytes.specs.Model.Output.{text, Took, TookLines, TookFront};
 ghost use Rattle.rk_ldb.specs.Answers.{IsAnswer, IsCommandAnswer, EndsInFault, TookPart};
-ghost use Rattle.rk_ldb.specs.Built.{built_command, output_so_far};
+ghost use Rattle.rk_ldb.specs.Built.{built_command, output_of, output_so_far};
+ghost use Rattle.rk_ldb.specs.Commands.{told};
 ghost use Rattle.rk_ldb.specs.Stops.{TookUpTo, DiskCounts, SinkCounts, OutputStops};
 
-use crate::command::read_command;
+use crate::command::{Command, read_command};
 use crate::lines::{DISK_FAULT_LINE, MEMORY_FAULT_LINE, USAGE_LINE, write_line};
 use crate::log_dump::dump_wal;
+use crate::manifest_dump::manifest_dump;
 use crate::stop::Stop;
 use rk_bytes::Text;
 use rk_bytes::model::Status;
@@ -70,8 +72,28 @@ fn answer<D: Disk, S: Sink>(
     ensures left { IsLeft (D.told disk.old) (D.told disk.new) }
 {
     match read_command(words) {
-        Some(command) => dump_wal(alloc, command.number, command.hex, disk, out),
+        Some(command) => write_answer(alloc, command, disk, out),
         None => answer_with_usage(out),
+    }
+}
+
+/// Writes the lines of a command.
+fn write_answer<D: Disk, S: Sink>(
+    alloc: Global,
+    command: Command,
+    disk: &mut D,
+    out: &mut S,
+) -> Result<Status, Stop>
+    ensures lines { IfSome (contents_told (D.told disk.old)) (λ d. TookUpTo (S.taken out.old) (S.taken out.new) (output_of (told command) d).lines result) }
+    ensures status { IfSome (contents_told (D.told disk.old)) (λ d. IfOk result (λ status. status ≡ (output_of (told command) d).status)) }
+    ensures answers { IfOk result IsCommandAnswer }
+    ensures disk_count { DiskCounts (D.faults disk.old) (D.faults disk.new) result }
+    ensures output_count { SinkCounts (S.faults out.old) (S.faults out.new) result }
+    ensures left { IsLeft (D.told disk.old) (D.told disk.new) }
+{
+    match command {
+        Command::ManifestDump { hex } => manifest_dump(alloc, hex, disk, out),
+        Command::DumpWal { number, hex } => dump_wal(alloc, number, hex, disk, out),
     }
 }
 

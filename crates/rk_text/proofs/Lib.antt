@@ -1,3 +1,4 @@
 mod BatchLemmas
+mod EditLemmas
 mod QuoteLemmas
 mod Shown

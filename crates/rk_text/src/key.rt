@@ -20,7 +20,7 @@ pub fn key_text(alloc: Global, internal: &[u8], hex: bool) -> Result<Bytes, Memo
 
 impl Line {
     /// Puts an internal key at the end.
-    fn put_internal_key(&mut self, internal: &[u8], hex: bool) -> Result<(), Memory>
+    pub(crate) fn put_internal_key(&mut self, internal: &[u8], hex: bool) -> Result<(), Memory>
         requires { 8 ≤ length internal.now }
         ensures { OnOk result (self.new ≡ self.old ++ key_text hex internal.now) }
     {

@@ -2,12 +2,14 @@
 #![tactic(auto)]
 
 mod batch;
+mod edit;
 mod item;
 mod key;
 mod line;
 mod quote;
 
 pub use batch::batch_lines;
+pub use edit::edit_lines;
 pub use item::item_line;
 pub use key::key_text;
 pub use line::Line;

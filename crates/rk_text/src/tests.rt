@@ -2,11 +2,23 @@
 use super::*;
 use rk_batch::{BatchFault, BatchRecord, BatchView};
 use rk_bytes::model::Kind;
+use rk_edit::{EditFault, Field};
 use rk_log::{EndKind, GapWhy, Item, Piece};
 use std::test::Fail;
 
 // A batch of puts of `a`, `b` and `c` from sequence number 5 on.
 const PUTS: [u8; 27] = *b"\x05\0\0\0\0\0\0\0\x03\0\0\0\x01\x01a\x011\x01\x01b\x012\x01\x01c\x013";
+
+// The edit of a new database.
+const FIRST_EDIT: [u8; 34] = *b"\x01\x1Aleveldb.BytewiseComparator\x02\x03\x03\x04\x04\0";
+
+// An edit with a field of each kind but a family's drop, which clashes with its add.
+const EACH_FIELD: &[u8] =
+    b"\x01\x0Bcomparators\x02\xAC\x02\x03\xFF\xFF\xFF\xFF\xFF\xFF\xFF\xFF\xFF\x01\
+    \x04\xFF\xFF\xFF\xFF\xFF\xFF\xFF\x7F\x05\x03\x09k\x01\x02\0\0\0\0\0\0\x06\xFF\x01\x07\
+    \x07\x01\x08\xE8\x07\x08\0\x01\0\0\0\0\0\0\x09b\x01\x02\0\0\0\0\0\0\x09\0\x0A\x05\
+    \xC8\x01\xFF\xFF\xFF\xFF\x0F\xC9\x01\x06family\xCB\x01\x04\xAC\x02\x02\
+    \x87@\x02\x03\x01\x87@\x04\x03\x020\x01\x88@\x01\x04\x81@\x03abc";
 
 #[test]
 fn bytes_are_quoted(rt: HostRuntime) -> Result<(), Fail> {
@@ -46,6 +58,36 @@ fn the_lines_of_a_batch_follow_its_record(rt: HostRuntime) -> Result<(), Fail> {
 }
 
 #[test]
+fn the_lines_of_an_edit_are_those_of_its_fields(rt: HostRuntime) -> Result<(), Fail> {
+    for (bytes, wanted) in [
+        (
+            FIRST_EDIT.as_slice(),
+            "  comparator \"leveldb.BytewiseComparator\"\n  log_number 3\n  next_file 4\n\
+            \x20 last_sequence 0\n",
+        ),
+        (
+            b"g\0\x04\xE8\x07\x09a\x01\x01\0\0\0\0\0\0\x09a\x01\x01\0\0\0\0\0\0\x01\x01\x01",
+            "  add_file 0 4 1000 \"a\"@1:1 \"a\"@1:1 seqs 1 1\n",
+        ),
+        (b"\x81@\x03abc", "  ignored 8193 3\n"),
+        (b"\x66", "  bad UnsupportedTag 102 0\n"),
+        (b"\xC8\x01\x01\xCA\x01", "  family 1\n  family_drop\n"),
+        (
+            EACH_FIELD,
+            "  comparator \"comparators\"\n  log_number 300\n  next_file 18446744073709551615\n\
+            \x20 last_sequence 72057594037927935\n  compact_cursor 3 \"k\"@2:1\n  delete_file 255 7\n\
+            \x20 add_file 1 8 1000 \"\"@1:0 \"b\"@2:1\n  previous_log 0\n  least_log 5\n\
+            \x20 family 4294967295\n  family_add \"family\"\n  greatest_family 4\n  group 2\n\
+            \x20 wal_add 3\n  wal_add 3 synced 48\n  wal_delete 4\n  ignored 8193 3\n",
+        ),
+    ] {
+        let lines = edit_lines(rt.alloc(), bytes, false)?;
+        assert_eq!(rt; lines.as_slice(), wanted.as_bytes());
+    }
+    Ok(())
+}
+
+#[test]
 fn one_buffer_serves_for_all_lines(rt: HostRuntime) -> Result<(), Fail> {
     let mut line = Line::new(rt.alloc());
     line.set_item(&Item::Gap(GapWhy::Checksum, 7), "record")?;
@@ -74,5 +116,18 @@ fn one_buffer_serves_for_all_lines(rt: HostRuntime) -> Result<(), Fail> {
         found: 3,
     })?;
     assert_eq!(rt; line.as_slice(), b"  bad WrongCount 2 3\n".as_slice());
+    line.set_item(&Item::Rec(Piece::Whole(&FIRST_EDIT), 0), "edit")?;
+    assert_eq!(rt; line.as_slice(), b"edit 0 34\n".as_slice());
+    let cursor = Field::CompactCursor {
+        level: 3,
+        key: b"k\x01\x02\0\0\0\0\0\0",
+    };
+    line.set_field(&cursor, true)?;
+    assert_eq!(rt;
+        line.as_slice(),
+        b"  compact_cursor 3 0x6b@2:1\n".as_slice()
+    );
+    line.set_bad_edit(EditFault::BadField { tag: 6, place: 2 })?;
+    assert_eq!(rt; line.as_slice(), b"  bad BadField 6 2\n".as_slice());
     Ok(())
 }
