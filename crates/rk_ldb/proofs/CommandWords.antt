@@ -1,10 +1,6 @@
 -- The words of the commands that the program has.
-use Rattle.std.proofs.Common.{◌≡◌, ℕ, ◌<◌, ◌≤◌, ◌^◌, Bool, true, false, List, [], ◌∷◌, length, get_or, drop, Option, Some, None, MatchOption, refl, sym, ap, ◌∙◌, arith}
-use Rattle.std.specs.Prelude.{codes, decimal, option_map, not}
-use Rattle.std.specs.Str.{bytes_eq}
-use Rattle.std.proofs.lemmas.Bool.{true≢false}
-use Rattle.std.proofs.lemmas.List.{drop_more}
-use Rattle.std.proofs.lemmas.Slice.Eq.{bytes_eq-Decides}
+use Rattle.std.proofs.Common.{◌≡◌, ℕ, ◌<◌, ◌^◌, Bool, List, [], ◌∷◌, get_or, Option, Some, None, MatchOption, refl, sym, ap, ◌∙◌}
+use Rattle.std.specs.Prelude.{codes, decimal, option_map}
 use Rattle.std.specs.Option.{option_and_then}
 use Rattle.rk_bytes.specs.Model.Grammar.{Command, scan, get, families, manifest_dump, dump_wal, check, repair, sst, drill, hex_of, number_of, dump_wal_of, command_of}
 use Rattle.rk_bytes.proofs.Callers.CommandLemmas.{command_of-SpellsCommand, number_spelled, number_read}

@@ -1,5 +1,5 @@
 -- Why a command is refused, in the definitions' words.
-use Rattle.std.specs.Prelude.{ℕ, List, Result, Ok, Err}
+use Rattle.std.specs.Prelude.{ℕ, List}
 use Rattle.rk_bytes.specs.declared.model.open.OpenErr.{OpenErr}
 use Rattle.rk_bytes.specs.declared.model.open.OpenErr.TheVariants as open_err
 use Rattle.rk_bytes.specs.Model.Lines.{open_err_words, no_log_words}

@@ -1,6 +1,6 @@
 -- A walk over the entries of an index whose handles are delta-encoded.
 use Rattle.std.specs.Prelude.{not, ◌==◌, if◌then◌else◌}
-use Rattle.std.proofs.Common.{◌≡◌, ◌⊎◌, ℕ, zero, suc, ◌+◌, ◌-◌, ◌<◌, ◌≤◌, Bool, true, false, List, [], ◌∷◌, ◌++◌, length, map, Result, Ok, Err, refl, sym, ap, ◌∙◌, subst, inl, inr, arith, append_assoc, length-drop}
+use Rattle.std.proofs.Common.{◌≡◌, ◌⊎◌, ℕ, zero, suc, ◌+◌, ◌-◌, ◌<◌, ◌≤◌, Bool, List, [], ◌∷◌, ◌++◌, length, map, Result, Ok, Err, refl, sym, ap, ◌∙◌, subst, inl, inr, arith, append_assoc, length-drop}
 use Rattle.std.proofs.Math.Dec.{eqb-suc-zero}
 use Rattle.std.proofs.lemmas.List.{append-nil}
 use Rattle.rk_bytes.specs.declared.model.block.BlockFault.TheVariants.{BadRestarts}
@@ -207,12 +207,3 @@ IsWalked-end part offsets now key handle left index has met w none is met_is =
     let met_right : met ≡ right_restarts w.front offsets = met_is ∙ (λ i. are_met (some i) (w.left_is i)) ∙ sym (right_restarts-walk 0 now.place w.front offsets w.passed) in
     (λ i. if met_right i then Ok (w.index_is i) else Err (Block BadRestarts))
     ∙ sym (ap (λ r. r >>= λ entries. if right_restarts entries offsets then Ok (map index_entry entries) else Err (Block BadRestarts)) whole)
-
--- a test of whether bytes are left
-pub some_left : (bytes rest : List ℕ) (test : Bool) → bytes ≡ rest → test ≡ (length bytes == 0) → test ≡ false → 0 < length rest
-some_left bytes [] test same is passed = absurd (let other : test ≡ true = is ∙ ap (λ bytes. length bytes == 0) same in cc)
-some_left bytes (b ∷ rest) test same is passed = omega arith
-
-pub none_left : (bytes rest : List ℕ) (test : Bool) → bytes ≡ rest → test ≡ (length bytes == 0) → test ≡ true → length rest ≡ 0
-none_left bytes [] test same is passed = refl
-none_left bytes (b ∷ rest) test same is passed = absurd (let other : test ≡ false = is ∙ ap (λ bytes. length bytes == 0) same ∙ eqb-suc-zero (length rest) in cc)

@@ -1,7 +1,7 @@
 ghost use Rattle.std.specs.Prelude.{◌≡◌, ◌+◌, ◌^◌, ◌<◌, ◌≤◌, ℕ, length, take, drop, IfSome, IfNone};
 ghost use Rattle.rk_bytes.specs.Model.Numbers.{little_endian};
 ghost use Rattle.rk_bytes.specs.Model.TableFooter.{checked_block, has_sum};
-ghost use Rattle.rk_meta.specs.Lent.{lent};
+ghost use Rattle.rk_bytes.specs.Reading.{slice_read};
 
 use crate::{Handle, SumKind, TrailerFault};
 use rk_sum::block_sum;
@@ -13,7 +13,7 @@ pub(crate) const TRAILER_LEN: usize = 5;
 /// before the trailer does, then `Checksum` where the stored sum isn't that of the block and its type, and
 /// then `Compressed` where the type isn't 0. Takes no memory.
 pub fn checked_block(bytes: &[u8], handle: Handle, sum: SumKind) -> Result<&[u8], TrailerFault>
-    ensures { lent result ≡ checked_block bytes.now handle sum }
+    ensures { slice_read result ≡ checked_block bytes.now handle sum }
 {
     let Some((block, trailer)) = block_and_trailer(bytes, handle) else {
         return Err(TrailerFault::OutOfFile);

@@ -1,4 +1,4 @@
-use Rattle.std.proofs.Common.{◌≡◌, ℕ, Result, sym, subst}
+use Rattle.std.proofs.Common.{◌≡◌, ℕ, Result, subst}
 use Rattle.std.specs.Prelude.{IfSome}
 use Rattle.std.specs.FinMap.{get}
 use Rattle.rk_bytes.specs.Model.BlockEntries.{with_fault}

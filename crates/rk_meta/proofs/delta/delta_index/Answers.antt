@@ -5,7 +5,8 @@ use Rattle.rk_bytes.specs.Reading.{rest_of}
 use Rattle.rk_bytes.specs.Model.BlockEntries.{no_handle}
 use Rattle.rk_bytes.specs.declared.model.block.IndexFault.TheVariants.{BadHandle}
 use Rattle.rk_block.specs.Restarts.{restarts_after}
-use Rattle.rk_meta.proofs.DeltaLemmas.{IsWalked, IsWalked-start, IsWalked-more, IsWalked-fault, IsWalked-key_fault, IsWalked-end, reads_entry, reads_no_handle, some_left, none_left}
+use Rattle.rk_meta.proofs.DeltaLemmas.{IsWalked, IsWalked-start, IsWalked-more, IsWalked-fault, IsWalked-key_fault, IsWalked-end, reads_entry, reads_no_handle}
+use Rattle.rk_bytes.proofs.Callers.Cursors.{some_left, none_left}
 use Rattle.rk_meta.proofs.delta.delta_index.Goals as goal
 
 pub loop-cursor-init : goal.loop-cursor-init
