@@ -1,0 +1,6 @@
+mod EntryLemmas
+mod OffsetLemmas
+mod ReadLemmas
+mod RestartLemmas
+mod StepLemmas
+mod WalkLemmas

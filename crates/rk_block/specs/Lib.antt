@@ -1,0 +1,4 @@
+pub mod Parts
+pub mod Raw
+pub mod Read
+pub mod Seen

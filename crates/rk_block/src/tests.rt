@@ -1,0 +1,134 @@
+// Expected entries and faults were computed by a program of another language.
+use super::*;
+use std::test::Fail;
+
+// The entries of a block: four keys, of which the second and the fourth share bytes. The lengths of the
+// fourth are spelled in five bytes.
+const ENTRIES: &[u8] = b"\0\x05\x01apple1\x04\x01\x02y22\0\x06\0banana\x83\x80\0\x01\x03dxyz";
+
+#[test]
+fn entries_are_handed_out_and_their_keys_rebuilt(rt: HostRuntime) -> Result<(), Fail> {
+    let block =
+        b"\0\x05\x01apple1\x04\x01\x02y22\0\x06\0banana\x83\x80\0\x01\x03dxyz\0\0\0\0\x0F\0\0\0\x02\0\0\0";
+    let Ok(view) = BlockView::read(block) else {
+        return Err(Fail::new("the block doesn't read"));
+    };
+    let mut entries = view.entries();
+    let mut key = KeyBuf::new(rt.alloc());
+    assert_eq!(rt; key.as_slice(), b"".as_slice());
+    for (shared, rest, value, whole) in [
+        (0, b"apple".as_slice(), b"1".as_slice(), b"apple".as_slice()),
+        (4, b"y", b"22", b"apply"),
+        (0, b"banana", b"", b"banana"),
+        (3, b"d", b"xyz", b"band"),
+    ] {
+        let Some(entry) = entries.next_entry() else {
+            return Err(Fail::new("an entry is missing"));
+        };
+        assert_eq!(rt; entry.shared, shared);
+        assert_eq!(rt; entry.rest, rest);
+        assert_eq!(rt; entry.value, value);
+        assert!(rt; entry.shared <= key.as_slice().len());
+        key.step(&entry)?;
+        assert_eq!(rt; key.as_slice(), whole);
+    }
+    assert!(rt; entries.next_entry().is_none());
+    assert!(rt; entries.next_entry().is_none());
+    Ok(())
+}
+
+#[test]
+fn a_long_key_is_rebuilt(rt: HostRuntime) -> Result<(), Fail> {
+    let mut key = KeyBuf::new(rt.alloc());
+    let long = [b'k'; 70];
+    for (shared, rest, len) in [
+        (0, &long[..60], 60),
+        (60, &long[..10], 70),
+        (64, b"", 64),
+        (60, &long, 130),
+        (0, b"", 0),
+    ] {
+        let entry = RawEntry {
+            shared,
+            rest,
+            value: b"",
+        };
+        assert!(rt; shared <= key.as_slice().len());
+        key.step(&entry)?;
+        assert_eq!(rt; key.as_slice().len(), len);
+    }
+    Ok(())
+}
+
+#[test]
+fn the_first_fault_is_told(rt: HostRuntime) -> Result<(), Fail> {
+    for (block, wanted) in [
+        (b"\0\0\0".as_slice(), BlockFault::Short),
+        (b"\0\x01\0a\0\0\0\0\x01\0\0\x80", BlockFault::HashIndex),
+        (b"\0\x01\0a\0\0\0\0", BlockFault::BadRestarts),
+        (b"\0\x01\0a\0\0\0\0\x02\0\0\0", BlockFault::BadRestarts),
+        (b"\0\0\0\0\0\0\0\0\x02\0\0\0", BlockFault::BadRestarts),
+        (b"\x01\0\0\0\x01\0\0\0", BlockFault::BadRestarts),
+        (b"\x01\x01\0a\0\0\0\0\x01\0\0\0", BlockFault::BadEntry(0)),
+        (
+            b"\0\x01\0a\x02\x01\0b\0\0\0\0\x01\0\0\0",
+            BlockFault::BadEntry(4),
+        ),
+        (
+            b"\0\x01\0a\0\x01\x02bc\x01\0\0\0\x01\0\0\0",
+            BlockFault::BadEntry(4),
+        ),
+        (
+            b"\xFF\xFF\xFF\xFF\x1F\0\0\0\0\0\0\x01\0\0\0",
+            BlockFault::BadEntry(0),
+        ),
+        (
+            b"\0\x01\0a\0\x01\0b\x04\0\0\0\x01\0\0\0",
+            BlockFault::BadRestarts,
+        ),
+        (
+            b"\0\x01\0a\0\x01\0b\0\0\0\0\0\0\0\0\x02\0\0\0",
+            BlockFault::BadRestarts,
+        ),
+        (
+            b"\0\x01\0a\0\x01\0b\0\0\0\0\x05\0\0\0\x02\0\0\0",
+            BlockFault::BadRestarts,
+        ),
+        (
+            b"\0\x01\0a\x01\x01\0b\0\0\0\0\x04\0\0\0\x02\0\0\0",
+            BlockFault::BadRestarts,
+        ),
+    ] {
+        match BlockView::read(block) {
+            Ok(_) => return Err(Fail::new("the block reads")),
+            Err(fault) => assert_eq!(rt; fault, wanted),
+        }
+    }
+    Ok(())
+}
+
+// Of the front of the entries with one restart, the entry that is cut, or `None` where none is.
+fn cut_entry(len: usize) -> Option<u64> {
+    match len {
+        0 | 9 | 15 | 24 | 33 => None,
+        1..=8 => Some(0),
+        10..=14 => Some(9),
+        16..=23 => Some(15),
+        _ => Some(24),
+    }
+}
+
+#[test]
+fn an_entry_may_not_pass_the_end(rt: HostRuntime) -> Result<(), Fail> {
+    for len in 0..=ENTRIES.len() {
+        let mut block = Vec::from_slice(rt.alloc(), &ENTRIES[..len])?;
+        block.extend_from_slice(b"\0\0\0\0\x01\0\0\0")?;
+        let cut = match BlockView::read(&block) {
+            Ok(_) => None,
+            Err(BlockFault::BadEntry(place)) => Some(place),
+            Err(_) => return Err(Fail::new("another fault")),
+        };
+        assert_eq!(rt; cut, cut_entry(len), "the first {len} bytes");
+    }
+    Ok(())
+}

@@ -1,0 +1,7 @@
+mod BoundLemmas
+mod DataLemmas
+mod RangeLemmas
+mod StageLemmas
+mod WalkLemmas
+mod TailLemmas
+mod RunLemmas
