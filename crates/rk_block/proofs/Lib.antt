@@ -1,6 +1,5 @@
+pub mod Callers
 mod EntryLemmas
-mod OffsetLemmas
 mod ReadLemmas
-mod RestartLemmas
 mod StepLemmas
 mod WalkLemmas

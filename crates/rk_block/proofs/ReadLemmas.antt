@@ -15,7 +15,7 @@ use Rattle.rk_block.specs.Read.{IsReadBlock, AreBetween, last_of, IsReadTo}
 use Rattle.rk_block.specs.Seen.{EntriesSeen, entries_or_none, entries_from, key_before, seen_from, seen_whole}
 use Rattle.rk_bytes.proofs.Callers.Readings.{both_steps, with_fault_ok}
 use Rattle.rk_block.proofs.EntryLemmas.{after_lengths, entry_at-lengths}
-use Rattle.rk_block.proofs.RestartLemmas.{AreBetween-ordered, AreBetween-push}
+use Rattle.rk_block.proofs.Callers.RestartLemmas.{AreBetween-ordered, AreBetween-push}
 use Rattle.rk_block.proofs.WalkLemmas.{ReadsHere, ReadsNothing, place_left, some_room, last_of-push}
 
 -- an entry is at the place where it is read

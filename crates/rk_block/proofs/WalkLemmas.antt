@@ -1,6 +1,6 @@
 -- A walk over the entries of a block.
-use Rattle.std.specs.Prelude.{nat_le, ◌==◌, ◌&&◌}
-use Rattle.std.proofs.Common.{◌≡◌, ℕ, zero, suc, ◌+◌, ◌-◌, ◌<◌, ◌≤◌, Bool, true, false, List, [], ◌∷◌, ◌++◌, length, take, drop, Some, None, Result, Ok, Err, refl, sym, ap, ◌∙◌, subst, arith, append_assoc, length-drop}
+use Rattle.std.specs.Prelude.{nat_le, ◌==◌, not}
+use Rattle.std.proofs.Common.{◌≡◌, ℕ, zero, suc, ◌+◌, ◌-◌, ◌<◌, ◌≤◌, Bool, List, [], ◌∷◌, ◌++◌, length, take, drop, Some, None, Result, Ok, Err, refl, sym, ap, ◌∙◌, subst, arith, append_assoc, length-drop}
 use Rattle.std.proofs.Math.Dec.{eqb-suc-zero}
 use Rattle.std.proofs.lemmas.Bool.{le-leb, lt-leb, cond-true, cond-false}
 use Rattle.std.proofs.lemmas.List.{append-nil, drop-drop, length-append, length-take-le}
@@ -10,12 +10,13 @@ use Rattle.rk_bytes.specs.declared.model.block.BlockFault.TheVariants.{BadEntry}
 use Rattle.rk_bytes.specs.Model.Numbers.{Read, ◌>>=◌}
 use Rattle.rk_bytes.specs.Model.BlockEntries.{Entry, with_fault, entry_at, next_entry, no_entry, entries_after, right_restarts}
 use Rattle.rk_block.specs.declared.entry.RawEntry.{RawEntry}
-use Rattle.rk_block.specs.Parts.{entries_in, restarts_in, offsets_after}
+use Rattle.rk_block.specs.Parts.{entries_in, restarts_in}
+use Rattle.rk_block.specs.Restarts.{RestartsSeen, starts_at_zero, restarts_of, restarts_after, are_met}
 use Rattle.rk_block.specs.Raw.{entry_of, entry_read, read_or_none, entry_or_none}
 use Rattle.rk_block.specs.Read.{AreBetween, last_of}
 use Rattle.rk_bytes.proofs.Callers.Readings.{both_steps, first_step}
 use Rattle.rk_block.proofs.StepLemmas.{first_fault}
-use Rattle.rk_block.proofs.RestartLemmas.{offsets_left, offsets_left-push, AreBetween-ordered, AreBetween-push, starts_at_zero, may_be_left, right_restarts-walk}
+use Rattle.rk_block.proofs.Callers.RestartLemmas.{offsets_left, offsets_left-push, AreBetween-ordered, AreBetween-push, has_entries, right_restarts-walk}
 
 -- what reads is read
 some_read : {A : Type 0} (r : Read A) (one : A × List ℕ) → Some one ≡ read_or_none r → r ≡ Ok one
@@ -68,7 +69,7 @@ entries_after-some next (suc room) before (b ∷ bytes) some e =
     both_steps (next before (b ∷ bytes)) _ [] e (λ one read e1. both_steps (entries_after next room one.0 one.1) _ [] e1 (λ entries more e2. cc))
 
 -- The entries up to a place were read, of which the last has a key of so many bytes, and these offsets are left.
-pub record IsWalked (part offsets : List ℕ) (place key_len : ℕ) (now : List ℕ) : Type 0 where
+pub record IsWalked (part offsets : List ℕ) (place key_len : ℕ) (now : RestartsSeen) : Type 0 where
   pub front : List (Entry (List ℕ))
   pub room : ℕ
   pub within : place ≤ length part
@@ -76,14 +77,14 @@ pub record IsWalked (part offsets : List ℕ) (place key_len : ℕ) (now : List 
   pub passed : AreBetween 0 place front
   pub short : key_len ≤ place
   pub key_is : key_len ≡ length (last_of front (no_entry [])).key
-  pub left : now ≡ offsets_left front offsets
+  pub left : now ≡ record { from_zero = starts_at_zero offsets; left = offsets_left front offsets }
   pub whole : entries_in part ≡ (entries_after (next_entry (length part)) room (last_of front (no_entry [])) (drop place part) >>= λ more. Ok (front ++ more))
 
 whole_start : {F : Type 0} (r : Result (List (Entry (List ℕ))) F) → r ≡ (r >>= λ more. Ok ([] ++ more))
 whole_start (Ok entries) = refl
 whole_start (Err why) = refl
 
-pub IsWalked-start : (part offsets : List ℕ) → IsWalked part offsets 0 0 offsets
+pub IsWalked-start : (part offsets : List ℕ) → IsWalked part offsets 0 0 (restarts_of offsets)
 IsWalked-start part offsets = record {
   front = [];
   room = length part;
@@ -117,8 +118,8 @@ ReadsHere bytes raw len = (place : ℕ) (key : List ℕ) → entry_read place ke
 abbrev pub ReadsNothing : List ℕ → NumFault → Type 0
 ReadsNothing bytes why = (place : ℕ) (key : List ℕ) → entry_read place key bytes (Err why) ≡ entry_or_none place key bytes
 
-pub IsWalked-more : (part offsets : List ℕ) (place key_len : ℕ) (now : List ℕ) (raw : RawEntry) (len next_len : ℕ) (next : List ℕ) → IsWalked part offsets place key_len now → place < length part → ReadsHere (drop place part) raw len → raw.shared ≤ key_len
-    → 0 < len → length raw.rest.now ≤ len → len ≤ length (drop place part) → next_len ≡ raw.shared + length raw.rest.now → next ≡ offsets_after place raw.shared now → IsWalked part offsets (place + len) next_len next
+pub IsWalked-more : (part offsets : List ℕ) (place key_len : ℕ) (now : RestartsSeen) (raw : RawEntry) (len next_len : ℕ) (next : RestartsSeen) → IsWalked part offsets place key_len now → place < length part → ReadsHere (drop place part) raw len → raw.shared ≤ key_len
+    → 0 < len → length raw.rest.now ≤ len → len ≤ length (drop place part) → next_len ≡ raw.shared + length raw.rest.now → next ≡ restarts_after place raw.shared now → IsWalked part offsets (place + len) next_len next
 IsWalked-more part offsets place key_len now raw len next_len next w some reads shares longer rest_fits fits len_is passes =
     let before = last_of w.front (no_entry []) in
     let bytes = drop place part in
@@ -142,11 +143,11 @@ IsWalked-more part offsets place key_len now raw len next_len next w some reads 
       passed = AreBetween-push 0 place (place + len) w.front entry w.passed refl (omega (arith, longer));
       short = omega (arith, len_is, shares, rest_fits, w.short);
       key_is = len_is ∙ sym key_len ∙ ap (λ (last : Entry (List ℕ)). length last.key) (sym last);
-      left = passes ∙ ap (offsets_after place raw.shared) w.left ∙ sym (offsets_left-push w.front entry offsets);
+      left = passes ∙ ap (restarts_after place raw.shared) w.left ∙ ap (λ left. record { from_zero = starts_at_zero offsets; left = left }) (sym (offsets_left-push w.front entry offsets));
       whole = w.whole ∙ ap (λ r. r >>= λ more. Ok (w.front ++ more)) follow ∙ then_one (entries_after (next_entry (length part)) less (last_of (w.front ++ entry ∷ []) (no_entry [])) (drop (place + len) part)) w.front entry;
     }
 
-none_fault : (part offsets : List ℕ) (place key_len : ℕ) (now : List ℕ) (w : IsWalked part offsets place key_len now) → place < length part → None ≡ entry_or_none place (last_of w.front (no_entry [])).key (drop place part) → Err (BadEntry place) ≡ restarts_in part offsets
+none_fault : (part offsets : List ℕ) (place key_len : ℕ) (now : RestartsSeen) (w : IsWalked part offsets place key_len now) → place < length part → None ≡ entry_or_none place (last_of w.front (no_entry [])).key (drop place part) → Err (BadEntry place) ≡ restarts_in part offsets
 none_fault part offsets place key_len now w some none =
     let before = last_of w.front (no_entry []) in
     let bytes = drop place part in
@@ -157,42 +158,29 @@ none_fault part offsets place key_len now w some none =
     ∙ entries_after-fault (next_entry (length part)) less before bytes (BadEntry place) some' (no_entry_here part place before w.within none) in
     sym (ap (λ r. r >>= λ entries. Ok (right_restarts entries offsets)) (w.whole ∙ ap (λ r. r >>= λ more. Ok (w.front ++ more)) follow))
 
-pub IsWalked-fault : (part offsets : List ℕ) (place key_len : ℕ) (now : List ℕ) (why : NumFault) → IsWalked part offsets place key_len now → place < length part → ReadsNothing (drop place part) why → Err (BadEntry place) ≡ restarts_in part offsets
+pub IsWalked-fault : (part offsets : List ℕ) (place key_len : ℕ) (now : RestartsSeen) (why : NumFault) → IsWalked part offsets place key_len now → place < length part → ReadsNothing (drop place part) why → Err (BadEntry place) ≡ restarts_in part offsets
 IsWalked-fault part offsets place key_len now why w some reads = none_fault part offsets place key_len now w some (reads place (last_of w.front (no_entry [])).key)
 
 -- an entry that shares more than the key before it has
-pub IsWalked-shares : (part offsets : List ℕ) (place key_len : ℕ) (now : List ℕ) (raw : RawEntry) (len : ℕ) → IsWalked part offsets place key_len now → place < length part → ReadsHere (drop place part) raw len → key_len < raw.shared → Err (BadEntry place) ≡ restarts_in part offsets
+pub IsWalked-shares : (part offsets : List ℕ) (place key_len : ℕ) (now : RestartsSeen) (raw : RawEntry) (len : ℕ) → IsWalked part offsets place key_len now → place < length part → ReadsHere (drop place part) raw len → key_len < raw.shared → Err (BadEntry place) ≡ restarts_in part offsets
 IsWalked-shares part offsets place key_len now raw len w some reads shares =
     let key = (last_of w.front (no_entry [])).key in
     none_fault part offsets place key_len now w some (sym (cond-false (nat_le raw.shared (length key)) _ _ (lt-leb raw.shared (length key) (omega (arith, shares, w.key_is)))) ∙ reads place key)
 
--- how many offsets are left: the only one where there is no entry
-abbrev pub left_in : List ℕ → ℕ
-left_in [] = 1
-left_in (b ∷ part) = 0
-
-pub left_in-empty : (part : List ℕ) (test : Bool) → test ≡ (length part == 0) → test ≡ true → left_in part ≡ 1
-left_in-empty [] test is told = refl
-left_in-empty (b ∷ part) test is told = absurd (let no : test ≡ false = is ∙ eqb-suc-zero (length part) in cc)
-
-pub left_in-some : (part : List ℕ) (test : Bool) → test ≡ (length part == 0) → test ≡ false → left_in part ≡ 0
-left_in-some [] test is told = absurd (let yes : test ≡ true = is in cc)
-left_in-some (b ∷ part) test is told = refl
-
 -- bytes have an entry, and no bytes have none
-left_of_none : (part : List ℕ) (front : List (Entry (List ℕ))) → AreBetween 0 (length part) front → entries_in part ≡ Ok front → left_in part ≡ may_be_left front
-left_of_none [] [] between whole = refl
-left_of_none [] (entry ∷ front) between whole = absurd (let later = AreBetween-ordered (entry.place + 1) 0 front between.1 in omega (arith, later))
-left_of_none (b ∷ part) [] between whole = absurd (entries_after-some (next_entry (length (b ∷ part))) (length (b ∷ part)) (no_entry []) (b ∷ part) (omega arith) whole)
-left_of_none (b ∷ part) (entry ∷ front) between whole = refl
+some_entries : (part : List ℕ) (front : List (Entry (List ℕ))) (has : Bool) → has ≡ not (length part == 0) → AreBetween 0 (length part) front → entries_in part ≡ Ok front → has ≡ has_entries front
+some_entries [] [] has is between whole = is
+some_entries [] (entry ∷ front) has is between whole = absurd (let later = AreBetween-ordered (entry.place + 1) 0 front between.1 in omega (arith, later))
+some_entries (b ∷ part) [] has is between whole = absurd (entries_after-some (next_entry (length (b ∷ part))) (length (b ∷ part)) (no_entry []) (b ∷ part) (omega arith) whole)
+some_entries (b ∷ part) (entry ∷ front) has is between whole = is ∙ ap not (eqb-suc-zero (length part))
 
-pub IsWalked-end : (part offsets : List ℕ) (place key_len : ℕ) (now : List ℕ) → IsWalked part offsets place key_len now → length part ≤ place → Ok (starts_at_zero offsets && (length now == left_in part)) ≡ restarts_in part offsets
-IsWalked-end part offsets place key_len now w ended =
+pub IsWalked-end : (part offsets : List ℕ) (place key_len : ℕ) (now : RestartsSeen) (has : Bool) → IsWalked part offsets place key_len now → length part ≤ place → has ≡ not (length part == 0) → Ok (are_met has now) ≡ restarts_in part offsets
+IsWalked-end part offsets place key_len now has w ended is =
     let before = last_of w.front (no_entry []) in
     let place_is : place ≡ length part = omega (arith, ended, w.within) in
     let follow = entries_after-end (next_entry (length part)) w.room before (drop place part) (omega (arith, length-drop place part, ended)) in
     let whole : entries_in part ≡ Ok w.front = w.whole ∙ ap (λ r. r >>= λ more. Ok (w.front ++ more)) follow ∙ ap Ok (append-nil w.front) in
-    let left_is = left_of_none part w.front (subst (λ place. AreBetween 0 place w.front) place_is w.passed) whole in
-    ap (λ test. Ok (starts_at_zero offsets && test)) (λ i. length (w.left i) == left_is i)
+    let some = some_entries part w.front has is (subst (λ place. AreBetween 0 place w.front) place_is w.passed) whole in
+    (λ i. Ok (are_met (some i) (w.left i)))
     ∙ ap Ok (sym (right_restarts-walk 0 place w.front offsets w.passed))
     ∙ sym (ap (λ r. r >>= λ entries. Ok (right_restarts entries offsets)) whole)

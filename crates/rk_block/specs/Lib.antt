@@ -1,4 +1,5 @@
 pub mod Parts
 pub mod Raw
 pub mod Read
+pub mod Restarts
 pub mod Seen

@@ -1,13 +1,13 @@
 -- The parts of a block.
-use Rattle.std.specs.Prelude.{ℕ, Bool, List, [], ◌∷◌, length, ◌==◌, ◌&&◌, if◌then◌else◌, Result, Ok, Err}
+use Rattle.std.specs.Prelude.{ℕ, Bool, List, [], length, Result, Ok, Err}
 use Rattle.rk_bytes.specs.declared.model.block.BlockFault.{BlockFault}
 use Rattle.rk_bytes.specs.Model.Numbers.{◌>>=◌}
 use Rattle.rk_bytes.specs.Model.BlockEntries.{Entry, entries_after, next_entry, no_entry, right_restarts}
-use Rattle.rk_block.specs.declared.part.Parts.{Parts}
+use Rattle.rk_block.specs.declared.part.BlockParts.{BlockParts}
 
 -- the bytes of the entries and the restart offsets, or the fault
-abbrev pub parts_read : Result Parts BlockFault → Result (List ℕ × List ℕ) BlockFault
-parts_read (Ok parts) = Ok (parts.entries.now, parts.offsets)
+abbrev pub parts_read : Result BlockParts BlockFault → Result (List ℕ × List ℕ) BlockFault
+parts_read (Ok parts) = Ok (parts.entries.now, parts.restarts.left)
 parts_read (Err fault) = Err fault
 
 -- the entries that fill these bytes, or the first fault
@@ -19,8 +19,3 @@ abbrev pub restarts_in : List ℕ → List ℕ → Result Bool BlockFault
 restarts_in part offsets = do
   entries ← entries_in part
   Ok (right_restarts entries offsets)
-
--- the offsets without the first, where that is the place of this entry and the entry shares nothing
-abbrev pub offsets_after : ℕ → ℕ → List ℕ → List ℕ
-offsets_after place shared [] = []
-offsets_after place shared (offset ∷ offsets) = if place == offset && shared == 0 then offsets else offset ∷ offsets

@@ -9,12 +9,12 @@ abbrev pub IsReadBlock : List ℕ → Type 0
 IsReadBlock part = entries_in part ≡ Ok (entries_or_none (entries_in part))
 
 -- the entries' places rise, the first isn't below one place and the last is below another
-abbrev pub AreBetween : ℕ → ℕ → List (Entry (List ℕ)) → Type 0
+abbrev pub AreBetween : {V : Type 0} → ℕ → ℕ → List (Entry V) → Type 0
 AreBetween start end [] = start ≤ end
 AreBetween start end (entry ∷ entries) = (start ≤ entry.place) × AreBetween (entry.place + 1) end entries
 
 -- the last of the entries
-abbrev pub last_of : List (Entry (List ℕ)) → Entry (List ℕ) → Entry (List ℕ)
+abbrev pub last_of : {V : Type 0} → List (Entry V) → Entry V → Entry V
 last_of [] before = before
 last_of (entry ∷ entries) before = last_of entries entry
 

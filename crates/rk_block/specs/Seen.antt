@@ -1,23 +1,13 @@
--- What contracts see of a block that is read.
+-- What contracts see of the entries of a block that is read.
 use Rattle.std.specs.Prelude.{ℕ, List, [], ◌∷◌, nat_lt, if◌then◌else◌, Result, Ok, Err}
 use Rattle.rk_bytes.specs.declared.model.block.BlockFault.{BlockFault}
 use Rattle.rk_bytes.specs.Model.BlockEntries.{Entry}
-
--- a block's bytes, and its entries
-pub record BlockSeen : Type 0 where
-  pub bytes : List ℕ
-  pub entries : List (Entry (List ℕ))
 
 -- entries that weren't handed out yet, where the first of them begins, and the key before it
 pub record EntriesSeen : Type 0 where
   pub place : ℕ
   pub key : List ℕ
   pub left : List (Entry (List ℕ))
-
--- the entries of a block, or the fault
-abbrev pub entries_read : Result BlockSeen BlockFault → Result (List (Entry (List ℕ))) BlockFault
-entries_read (Ok seen) = Ok seen.entries
-entries_read (Err fault) = Err fault
 
 -- all of the entries are to be handed out
 abbrev pub seen_whole : List (Entry (List ℕ)) → EntriesSeen

@@ -4,12 +4,13 @@ ghost use Rattle.rk_block.specs.Raw.{lengths_at, lengths_read, entry_read, entry
 
 use rk_bytes::{Cursor, NumFault};
 
-/// An entry as it stands in its block. Its key is so many bytes of the key before it, and then the rest.
+/// An entry as it stands in its block. Its key is the first `shared` bytes of the key before it, and
+/// then `rest`.
 #[derive(Clone, Copy, Debug)]
 pub struct RawEntry<'a> {
     /// How many bytes the key shares with the key before it. Where it shares none, the rest is the key.
     pub shared: usize,
-    /// The bytes of the key after those that it shares.
+    /// The bytes of the key after those.
     pub rest: &'a [u8],
     pub value: &'a [u8],
 }

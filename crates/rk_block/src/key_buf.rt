@@ -18,12 +18,13 @@ pub struct KeyBuf {
 
 impl Model for KeyBuf {
     ghost use Rattle.std.specs.Prelude.{◌≤◌, List, ℕ};
+    ghost use Rattle.rk_block.specs.declared.key_buf.TheConstants.{INLINE_LEN};
 
     ghost Value = { List ℕ };
 
     ghost view = { λ k. k.bytes.items };
 
-    ghost invariant = { λ k. 64 ≤ k.bytes.capacity };
+    ghost invariant = { λ k. INLINE_LEN ≤ k.bytes.capacity };
 }
 
 impl KeyBuf {
@@ -45,8 +46,8 @@ impl KeyBuf {
         ensures err { OnErr result (self.new ≡ self.old) }
     {
         let dropped = self.bytes.len() - entry.shared;
-        self.bytes
-            .reserve(entry.rest.len().saturating_sub(dropped))?;
+        let more = entry.rest.len().saturating_sub(dropped);
+        self.bytes.reserve(more)?;
         self.bytes.truncate(entry.shared);
         match self.bytes.extend_from_slice(entry.rest) {
             Ok(()) => Ok(()),

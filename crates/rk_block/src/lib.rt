@@ -4,12 +4,14 @@
 
 mod entry;
 mod key_buf;
-mod offsets;
 mod part;
+mod restarts;
 mod view;
 
 pub use entry::RawEntry;
 pub use key_buf::KeyBuf;
+pub use part::{BlockParts, block_parts};
+pub use restarts::Restarts;
 pub use rk_bytes::model::BlockFault;
 pub use view::{BlockView, Entries};
 

@@ -1,11 +1,12 @@
 //! The parts of a block, and the tests of them.
-ghost use Rattle.std.specs.Prelude.{◌≡◌};
+ghost use Rattle.std.specs.Prelude.{◌≡◌, IfOk};
 ghost use Rattle.rk_bytes.specs.Model.BlockEntries.{block_parts};
 ghost use Rattle.rk_block.specs.Parts.{parts_read, restarts_in};
+ghost use Rattle.rk_block.specs.Restarts.{restarts_of};
 
 use crate::BlockFault;
 use crate::entry::read_entry;
-use crate::offsets::{OFFSET_LEN, Offsets, fixed32};
+use crate::restarts::{OFFSET_LEN, Restarts, fixed32};
 
 /// How many bytes the count of restart offsets has.
 const COUNT_LEN: usize = 4;
@@ -13,16 +14,20 @@ const COUNT_LEN: usize = 4;
 /// The bit of the count that says that a hash index stands before it.
 const HASH_INDEX: u32 = 1 << 31;
 
-/// The parts of a block.
+/// The parts of a block, whichever form its entries have.
 #[derive(Debug, Drop)]
-pub(crate) struct Parts<'a> {
-    pub(crate) entries: &'a [u8],
-    pub(crate) offsets: Offsets<'a>,
+pub struct BlockParts<'a> {
+    /// The bytes that the entries fill.
+    pub entries: &'a [u8],
+    pub restarts: Restarts<'a>,
 }
 
-/// Parts a block by the count at its end.
-pub(crate) fn block_parts(block: &[u8]) -> Result<Parts<'_>, BlockFault>
-    ensures { parts_read result ≡ block_parts block.now }
+/// Parts a block by the count at its end. `Short` comes where the block has fewer bytes than that count,
+/// `HashIndex` where the count says that there is such an index, and `BadRestarts` where it is 0 or the
+/// offsets don't fit before it. Takes no memory.
+pub fn block_parts(block: &[u8]) -> Result<BlockParts<'_>, BlockFault>
+    ensures parts { parts_read result ≡ block_parts block.now }
+    ensures restarts { IfOk result (λ parts. parts.restarts ≡ restarts_of parts.restarts.left) }
 {
     if block.len() < COUNT_LEN {
         return Err(BlockFault::Short);
@@ -37,21 +42,20 @@ pub(crate) fn block_parts(block: &[u8]) -> Result<Parts<'_>, BlockFault>
         return Err(BlockFault::BadRestarts);
     }
     let entries_end = offsets_end - offsets_len;
-    Ok(Parts {
+    Ok(BlockParts {
         entries: &block[..entries_end],
-        offsets: Offsets::new(&block[entries_end..offsets_end]),
+        restarts: Restarts::new(&block[entries_end..offsets_end]),
     })
 }
 
-/// Whether the restart offsets are right for the entries, or the first entry that doesn't read. The
-/// offsets rise as the places of the entries do, so one walk passes both.
+/// Whether the restart offsets are right for the entries, or the first entry that doesn't read.
 pub(crate) fn has_right_restarts(
     entries: &[u8],
-    mut offsets: Offsets<'_>,
+    mut restarts: Restarts<'_>,
 ) -> Result<bool, BlockFault>
-    ensures { result ≡ restarts_in entries.now offsets.entry }
+    requires { restarts ≡ restarts_of restarts.left }
+    ensures { result ≡ restarts_in entries.now restarts.entry.left }
 {
-    let starts_at_zero = offsets.first() == Some(0);
     let mut place = 0;
     let mut key_len = 0;
     while place < entries.len() {
@@ -61,11 +65,9 @@ pub(crate) fn has_right_restarts(
         if entry.shared > key_len {
             return Err(BlockFault::BadEntry(place as u64));
         }
-        offsets.pass(place, entry.shared);
+        restarts.pass(place, entry.shared);
         key_len = entry.shared + entry.rest.len();
         place += len;
     }
-    // Where there is no entry, the one offset is left.
-    let left = if entries.is_empty() { 1 } else { 0 };
-    Ok(starts_at_zero && offsets.len() == left)
+    Ok(restarts.are_met(!entries.is_empty()))
 }

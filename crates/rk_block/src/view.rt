@@ -1,29 +1,30 @@
-ghost use Rattle.std.specs.Prelude.{◌≡◌, ◌≤◌, ◌∷◌, [], length, IfSome, IfNone, IfOk};
+ghost use Rattle.std.specs.Prelude.{◌≡◌, ◌≤◌, ◌∷◌, [], length, IfSome, IfNone};
 ghost use Rattle.rk_bytes.specs.Model.BlockEntries.{block_entries};
-ghost use Rattle.rk_block.specs.Seen.{seen_whole, entries_read};
+ghost use Rattle.rk_block.specs.Seen.{seen_whole};
 ghost use Rattle.rk_block.specs.Raw.{entry_of, key_after};
 
 use crate::entry::read_entry;
-use crate::part::{Parts, block_parts, has_right_restarts};
+use crate::part::{BlockParts, block_parts, has_right_restarts};
 use crate::{BlockFault, RawEntry};
 use std::marker::Model;
 
-/// A block that reads. Contracts see its bytes and its entries, with whole keys.
+/// A block that reads. Contracts see its entries, with whole keys.
 #[derive(Debug, Drop)]
 pub struct BlockView<'a> {
-    bytes: &'a [u8],
-    /// The part of the bytes that the entries fill.
+    /// The part of the block that its entries fill.
     part: &'a [u8],
 }
 
 impl<'a> Model for BlockView<'a> {
-    ghost use Rattle.rk_block.specs.Seen.{BlockSeen, entries_or_none};
+    ghost use Rattle.std.specs.Prelude.{List, ℕ};
+    ghost use Rattle.rk_bytes.specs.Model.BlockEntries.{Entry};
+    ghost use Rattle.rk_block.specs.Seen.{entries_or_none};
     ghost use Rattle.rk_block.specs.Parts.{entries_in};
     ghost use Rattle.rk_block.specs.Read.{IsReadBlock};
 
-    ghost Value = { BlockSeen };
+    ghost Value = { List (Entry (List ℕ)) };
 
-    ghost view = { λ v. record { bytes = v.bytes.now; entries = entries_or_none (entries_in v.part.now) } };
+    ghost view = { λ v. entries_or_none (entries_in v.part.now) };
 
     ghost invariant = { λ v. IsReadBlock v.part.now };
 }
@@ -35,15 +36,11 @@ impl<'a> BlockView<'a> {
     /// entries or shares more than the key before has, and last `BadRestarts` where the offsets don't
     /// rise from 0 or one isn't where an entry begins that shares nothing. Takes no memory.
     pub fn read(bytes: &'a [u8]) -> Result<BlockView<'a>, BlockFault>
-        ensures entries { entries_read result ≡ block_entries bytes.now }
-        ensures bytes { IfOk result (λ view. view.bytes ≡ bytes.now) }
+        ensures { result ≡ block_entries bytes.now }
     {
-        let Parts { entries, offsets } = block_parts(bytes)?;
-        if has_right_restarts(entries, offsets)? {
-            Ok(BlockView {
-                bytes,
-                part: entries,
-            })
+        let BlockParts { entries, restarts } = block_parts(bytes)?;
+        if has_right_restarts(entries, restarts)? {
+            Ok(BlockView { part: entries })
         } else {
             Err(BlockFault::BadRestarts)
         }
@@ -51,7 +48,7 @@ impl<'a> BlockView<'a> {
 
     /// All entries, to be handed out from the first on. Takes no memory.
     pub fn entries(&self) -> Entries<'a>
-        ensures { result ≡ seen_whole self.now.entries }
+        ensures { result ≡ seen_whole self.now }
     {
         Entries {
             part: self.part,

@@ -1,7 +1,7 @@
 -- The footer that a table's last bytes are, by its magic number.
 use Rattle.std.proofs.Common.{◌≡◌, ℕ, ◌-◌, ◌<◌, ◌≤◌, Bool, true, false, cond, List, length, drop, nat_lt, Result, Err, refl, ap, ◌∙◌, arith}
 use Rattle.std.specs.Prelude.{◌==◌}
-use Rattle.std.proofs.lemmas.Bool.{lt-ltb, le-ltb, eq-eqb, ne_eqb, cond-true}
+use Rattle.std.proofs.lemmas.Bool.{lt-ltb, le-ltb, eq-eqb, cond-true}
 use Rattle.rk_bytes.specs.declared.model.table.Footer.{Footer}
 use Rattle.rk_bytes.specs.declared.model.table.SumKind.TheVariants.{Crc32c}
 use Rattle.rk_bytes.specs.declared.model.table.FooterFault.{FooterFault}

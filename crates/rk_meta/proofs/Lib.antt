@@ -1,1 +1,6 @@
+mod BlockLemmas
+mod DeltaLemmas
 mod FooterLemmas
+mod KeptLemmas
+mod TrailerLemmas
+mod WalkLemmas

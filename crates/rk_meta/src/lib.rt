@@ -2,11 +2,14 @@
 //! and its range deletions (RocksDB's wiki, "Rocksdb BlockBasedTable Format").
 #![tactic(auto)]
 
+mod delta;
 mod footer;
 mod handle;
 mod index;
 mod properties;
 mod ranges;
+mod trailer;
+mod walk;
 mod want;
 
 pub use footer::read_footer;
@@ -18,4 +21,8 @@ pub use rk_bytes::model::{
     Footer, FooterFault, Handle, IndexEntry, IndexFault, Property, RangeDel, RangeFault, SumKind,
     TrailerFault,
 };
+pub use trailer::checked_block;
 pub use want::Want;
+
+#[cfg(test)]
+mod tests;

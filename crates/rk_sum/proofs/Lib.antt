@@ -1,2 +1,5 @@
+mod Hashes
+mod LittleEndian
 mod Registers
+mod Stripes
 mod Tables

@@ -1,4 +1,4 @@
-use Rattle.std.proofs.Common.{◌≡◌, ◌-◌, length, sym, ◌∙◌}
+use Rattle.std.proofs.Common.{◌≡◌, sym, ◌∙◌}
 use Rattle.std.proofs.lemmas.Bool.{ne_eqb}
 use Rattle.rk_bytes.specs.declared.model.table.SumKind.TheVariants.{Crc32c}
 use Rattle.rk_bytes.specs.Model.TableFooter.{magic_of, newer_magic, legacy_magic, newer_footer, footer_with}

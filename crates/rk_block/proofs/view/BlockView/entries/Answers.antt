@@ -1,5 +1,5 @@
 use Rattle.std.proofs.Common.{ap, ◌∙◌}
-use Rattle.rk_block.specs.Seen.{BlockSeen, seen_whole}
+use Rattle.rk_block.specs.Seen.{seen_whole}
 use Rattle.rk_block.proofs.ReadLemmas.{IsReadTo-start, seen_at_start}
 use Rattle.rk_block.proofs.view.BlockView.entries.Goals as goal
 
@@ -7,4 +7,4 @@ pub invariant_of-result : goal.invariant_of-result
 invariant_of-result c = IsReadTo-start c.self.inside.part.now c.self.invariant
 
 pub returns : goal.returns
-returns c = seen_at_start c.self.inside.part.now c.self.invariant ∙ ap (λ (seen : BlockSeen). seen_whole seen.entries) c.self.view_is
+returns c = seen_at_start c.self.inside.part.now c.self.invariant ∙ ap seen_whole c.self.view_is
