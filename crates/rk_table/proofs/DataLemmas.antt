@@ -112,11 +112,11 @@ joined : (table : TableRef) (records : Records) (told : Result (List DataEntry) 
 joined table records told are rest bounds =
     let entries' = entries_so_far table.entries records.entries (are.first ∷ are.more) rest are.entries_are in
     let least' = least_so_far table.smallest table.largest are.first are.more rest (map start_key table.ranges) bounds are.rise
-      ∙ ap (λ key. reduce lesser (listed (Some (unwrap_or table.smallest key)) ++ (map (λ (entry : DataEntry). entry.key) rest ++ map start_key table.ranges))) (sym are.first_is) in
+    ∙ ap (λ key. reduce lesser (listed (Some (unwrap_or table.smallest key)) ++ (map (λ (entry : DataEntry). entry.key) rest ++ map start_key table.ranges))) (sym are.first_is) in
     let most' = most_so_far table.largest are.first are.more rest (map end_key table.ranges) are.rise
-      ∙ ap (λ key. reduce greater (listed (Some key) ++ (map (λ (entry : DataEntry). entry.key) rest ++ map end_key table.ranges))) (sym are.last_is) in
+    ∙ ap (λ key. reduce greater (listed (Some key) ++ (map (λ (entry : DataEntry). entry.key) rest ++ map end_key table.ranges))) (sym are.last_is) in
     let top' = top_so_far table.top (are.first ∷ are.more) rest (map (λ (range : RangeDel). range.sequence) table.ranges)
-      ∙ ap (λ n. fold max (max table.top n) (map (λ (entry : DataEntry). entry.parts.sequence) rest ++ map (λ (range : RangeDel). range.sequence) table.ranges)) (sym are.top_is) in
+    ∙ ap (λ n. fold max (max table.top n) (map (λ (entry : DataEntry). entry.parts.sequence) rest ++ map (λ (range : RangeDel). range.sequence) table.ranges)) (sym are.top_is) in
     λ i. record (with_entries (advanced table records) rest) { entries = entries' i; smallest = least' i; largest = most' i; top = top' i }
 
 -- a data block that the table has
@@ -159,7 +159,7 @@ advance block_of table number at later block records dropped handed are bounds =
     let last : last_key (are.first ∷ are.more) ≡ Some records.last = ap (λ (o : Option (List ℕ)). o) (last_is are.first are.more) ∙ ap Some (sym are.last_is) in
     ap (λ (index : List IndexEntry). data_records block_of table.user_keys table.largest lower index >>= (λ entries. Ok (with_entries table entries))) dropped
     ∙ ap (λ (r : Result (List DataEntry) TableFault). (r >>= (λ records'. data_records block_of table.user_keys (last_key records') (Some at.separator) later >>= (λ more. Ok (records' ++ more)))) >>= (λ entries. Ok (with_entries table entries)))
-      (block_is block_of table.user_keys table.largest lower at block handed ∙ are.is)
+    (block_is block_of table.user_keys table.largest lower at block handed ∙ are.is)
     ∙ rest_is table records _ are bounds (data_records block_of table.user_keys (last_key (are.first ∷ are.more)) (Some at.separator) later)
     ∙ (λ i. data_records block_of table.user_keys (last i) (sym separator i) (sym dropped' i) >>= (λ entries. Ok (with_entries (advanced table records) entries)))
   where
@@ -170,12 +170,11 @@ advance block_of table number at later block records dropped handed are bounds =
 -- the bounds after a block's records
 pub bounds_are : (table : TableRef) (records : Records) (told : Result (List DataEntry) TableFault) → AreRecords table.largest told records → AreBounds table.smallest table.largest → AreBounds (advanced table records).smallest (advanced table records).largest
 bounds_are table records told are bounds =
-    let (long, upto') = by table.smallest table.largest are.first are.more bounds are.rise in
-    (
+    let (long, upto') = by table.smallest table.largest are.first are.more bounds are.rise in (
       subst (λ (first : List ℕ). 8 ≤ length (unwrap_or table.smallest first)) (sym are.first_is) long,
       are.last_long,
       subst (λ (first : List ℕ). is_gt (key_cmp (unwrap_or table.smallest first) records.last) ≡ false) (sym are.first_is)
-      (subst (λ (last : List ℕ). is_gt (key_cmp (unwrap_or table.smallest are.first.key) last) ≡ false) (sym are.last_is) upto'),
+          (subst (λ (last : List ℕ). is_gt (key_cmp (unwrap_or table.smallest are.first.key) last) ≡ false) (sym are.last_is) upto'),
     )
   where
     by : (smallest largest : Option (List ℕ)) (first : DataEntry) (more : List DataEntry) → AreBounds smallest largest → Rise largest (first ∷ more) → (8 ≤ length (unwrap_or smallest first.key)) × (is_gt (key_cmp (unwrap_or smallest first.key) (unwrap_or (last_key more) first.key)) ≡ false)

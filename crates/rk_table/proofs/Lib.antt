@@ -5,3 +5,4 @@ mod StageLemmas
 mod WalkLemmas
 mod TailLemmas
 mod RunLemmas
+mod RowLemmas

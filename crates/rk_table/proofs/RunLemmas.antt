@@ -78,7 +78,7 @@ fault_left len (Data footer so_far number) table fault told sound hands e =
     let lower = separator_before number so_far.index in
     ap (λ (index : List IndexEntry). data_records block_of so_far.user_keys so_far.largest lower index >>= (λ entries. Ok (with_entries so_far entries))) dropped
     ∙ stops (data_records block_of so_far.user_keys so_far.largest lower (at ∷ later)) told (λ entries. Ok (with_entries so_far entries))
-      (stops (data_block block_of so_far.user_keys so_far.largest lower at) told (λ records. data_records block_of so_far.user_keys (last_key records) (Some at.separator) later >>= (λ more. Ok (records ++ more)))
-      (stops (held block_of block_status block_entries at.block) told (λ entries. records_after at.block.offset so_far.largest entries >>= (λ records. cond (are_separated so_far.user_keys lower at.separator records) (Ok records) (Err (damaged BadSeparator at.block.offset))))
-      (held_none table footer block_status block_entries at.block fault hands' ∙ ap Err same)))
+    (stops (data_block block_of so_far.user_keys so_far.largest lower at) told (λ records. data_records block_of so_far.user_keys (last_key records) (Some at.separator) later >>= (λ more. Ok (records ++ more)))
+    (stops (held block_of block_status block_entries at.block) told (λ entries. records_after at.block.offset so_far.largest entries >>= (λ records. cond (are_separated so_far.user_keys lower at.separator records) (Ok records) (Err (damaged BadSeparator at.block.offset))))
+    (held_none table footer block_status block_entries at.block fault hands' ∙ ap Err same)))
 fault_left len (Ended status) table fault told sound hands e = absurd hands

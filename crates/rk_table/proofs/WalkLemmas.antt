@@ -59,9 +59,9 @@ hands_out old new checked raw walk left key stepped told value kept there place 
     record {
       walk = record { same = key ∙ key_is; long = λ _. subst (λ key. 8 ≤ length key) (sym kept) long };
       left = ap (λ entries. records_after old.place (before_of old) entries) left
-        ∙ rest_made old.place (before_of old) entry new.entries.left _ made'
-        ∙ (λ i. preceded (record { key = key_is i; parts = record { user = user_key (key_is i); sequence = checked.sequence; kind = checked.kind }; value = sym value i } ∷ []) (records_after (sym place i) (Some (key_is i)) new.entries.left))
-        ∙ ap (λ before. preceded (handed_out checked new.key ∷ []) (records_after new.place before new.entries.left)) (sym before_is);
+          ∙ rest_made old.place (before_of old) entry new.entries.left _ made'
+          ∙ (λ i. preceded (record { key = key_is i; parts = record { user = user_key (key_is i); sequence = checked.sequence; kind = checked.kind }; value = sym value i } ∷ []) (records_after (sym place i) (Some (key_is i)) new.entries.left))
+          ∙ ap (λ before. preceded (handed_out checked new.key ∷ []) (records_after new.place before new.entries.left)) (sym before_is);
       shorter = let e : length old.entries.left ≡ length (entry ∷ new.entries.left) = ap length left in omega arith;
       before = before_is;
       above = subst (λ key. is_above key_cmp key (before_of old) ≡ true) key_is (above_of old.place (before_of old) entry (key_parts entry.key) _ made');

@@ -5,3 +5,4 @@ pub mod Walks
 pub mod Blocks
 pub mod Data
 pub mod Runs
+pub mod Rows

@@ -41,11 +41,7 @@ pub(crate) fn bounds_with(
 }
 
 /// The least of this key, if there is one, and the keys at the range deletions' starts.
-fn least(
-    alloc: Global,
-    key: Option<&[u8]>,
-    ranges: &[RangeDel],
-) -> Result<Option<Bytes>, Memory>
+fn least(alloc: Global, key: Option<&[u8]>, ranges: &[RangeDel]) -> Result<Option<Bytes>, Memory>
     requires top { AreBelowTop ranges.now }
     requires long { ForSome key (λ key. 8 ≤ length key.now) }
     ensures { IfOk result (λ least. least ≡ reduce lesser (listed (value_of key.entry) ++ map start_key ranges.now)) }
@@ -64,11 +60,7 @@ fn least(
 }
 
 /// The greatest of this key, if there is one, and the keys at the range deletions' ends.
-fn greatest(
-    alloc: Global,
-    key: Option<&[u8]>,
-    ranges: &[RangeDel],
-) -> Result<Option<Bytes>, Memory>
+fn greatest(alloc: Global, key: Option<&[u8]>, ranges: &[RangeDel]) -> Result<Option<Bytes>, Memory>
     requires long { ForSome key (λ key. 8 ≤ length key.now) }
     ensures { IfOk result (λ greatest. greatest ≡ reduce greater (listed (value_of key.entry) ++ map end_key ranges.now)) }
 {

@@ -34,11 +34,7 @@ pub(crate) fn stopped(error: WalkErr, stage: Stage) -> Result<Stage, Stage>
 }
 
 /// The stage after the metaindex's block.
-pub(crate) fn after_metaindex(
-    alloc: Global,
-    footer: Footer,
-    block: &[u8],
-) -> Result<Stage, Stage>
+pub(crate) fn after_metaindex(alloc: Global, footer: Footer, block: &[u8]) -> Result<Stage, Stage>
     ensures ok { IfOk result (Continues (Stage.Metaindex footer) block.now) }
     ensures sound { IfOk result IsSound }
     ensures lower { IfOk result (λ next. steps_left next < 2 ^ 64 + 3) }

@@ -8,13 +8,20 @@ mod fault;
 mod head;
 mod properties;
 mod records;
+mod rows;
 mod run;
 mod stage;
 mod status;
 mod tail;
 mod walk;
+mod whole;
 
 pub use rk_bytes::model::{Record, TableRef, TableWhat, TableWhy};
 pub use rk_meta::{Handle, IndexEntry, Property, RangeDel, SumKind, TrailerFault, Want};
+pub use rows::block_records;
 pub use run::StatusRun;
 pub use status::{Status, WalkErr};
+pub use whole::table_status;
+
+#[cfg(test)]
+mod tests;

@@ -10,12 +10,19 @@ use rk_bytes::{Bytes, Cursor, Memory, Seq};
 use std::alloc::Global;
 
 const COMPARATOR: &[u8] = b"rocksdb.comparator";
+
 const INDEX_TYPE: &[u8] = b"rocksdb.block.based.table.index.type";
+
 const EXTERNAL: &[u8] = b"rocksdb.external_sst_file.version";
+
 const FAMILY_ID: &[u8] = b"rocksdb.column.family.id";
+
 const FAMILY_NAME: &[u8] = b"rocksdb.column.family.name";
+
 const USER_KEYS: &[u8] = b"rocksdb.index.key.is.user.key";
+
 const DELTA: &[u8] = b"rocksdb.index.value.is.delta.encoded";
+
 const ENTRIES: &[u8] = b"rocksdb.num.entries";
 
 /// The name of the comparator that orders user keys by their bytes.

@@ -103,12 +103,7 @@ fn copied(alloc: Global, key: &[u8]) -> Result<Bytes, WalkErr>
 }
 
 /// Whether the first key is above the separator before, and the last isn't above the block's own.
-fn are_separated(
-    user_keys: bool,
-    lower: Option<&[u8]>,
-    upper: &[u8],
-    records: &Records,
-) -> bool
+fn are_separated(user_keys: bool, lower: Option<&[u8]>, upper: &[u8], records: &Records) -> bool
     requires first_long { 8 ≤ length records.now.first }
     requires last_long { 8 ≤ length records.now.last }
     requires lower_long { user_keys ≡ false → ForSome lower (λ key. 8 ≤ length key.now) }

@@ -8,7 +8,9 @@ pub(crate) enum Stage {
     /// The last bytes are to be read.
     Tail,
     /// The metaindex is to be read.
-    Metaindex { footer: Footer },
+    Metaindex {
+        footer: Footer,
+    },
     /// The block of properties is to be read, and the block of range deletions, if there is one, after it.
     Properties {
         footer: Footer,

@@ -76,7 +76,11 @@ impl<'a> Walk<'a> {
             return Err(WalkErr::Memory);
         }
         let key = self.key.as_slice();
-        let (sequence, kind) = checked_key(self.place, kept_key(&self.before, self.has_before), key)?;
+        let (sequence, kind) = checked_key(
+            self.place,
+            kept_key(&self.before, self.has_before),
+            key,
+        )?;
         keep(&mut self.before, key)?;
         self.has_before = true;
         Ok(Some(Checked {

@@ -14,9 +14,9 @@ returns-in-Block-clause-follows c = λ table follows hands.
     let follows' = subst (λ (run : RunSeen). Follows run table) (sym c.self.view_is) follows in
     let hands' = subst (λ (run : RunSeen). Hands table (want_of run) (Err c.args.fault)) (sym c.self.view_is) hands in
     let told : fault_at (want_at inside.length inside.stage) c.args.fault ≡ Some (trailer_status c.in-Block.handle.offset c.args.fault) =
-      ap (λ (want : Want). fault_at want c.args.fault) (ap want_of c.self.view_is ∙ sym c.want.ensures.want ∙ c.in-Block.is) in
+    ap (λ (want : Want). fault_at want c.args.fault) (ap want_of c.self.view_is ∙ sym c.want.ensures.want ∙ c.in-Block.is) in
     record {
       same = follows'.same;
       status = follows'.status ∙ fault_left inside.length inside.stage table c.args.fault _ c.self.invariant hands' told
-        ∙ sym (c.ended-next.ensures.left table _ c.trailer_fault.ensures) ∙ ap (λ (stage : Stage). left_of stage table) (sym c.put.ensures);
+          ∙ sym (c.ended-next.ensures.left table _ c.trailer_fault.ensures) ∙ ap (λ (stage : Stage). left_of stage table) (sym c.put.ensures);
     }
