@@ -6,3 +6,4 @@ mod WalkLemmas
 mod TailLemmas
 mod RunLemmas
 mod RowLemmas
+mod LeftLemmas

@@ -6,3 +6,4 @@ pub mod Blocks
 pub mod Data
 pub mod Runs
 pub mod Rows
+pub mod Left

@@ -63,5 +63,5 @@ pub record HandsOut (old : Walk) (checked : Checked) (new : Walk) : Type 0 where
 -- a walk's step: a record, the end or an error
 abbrev pub Steps : Walk → Result (Option Checked) WalkErr → Walk → Type 0
 Steps old (Ok (Some checked)) new = HandsOut old checked new
-Steps old (Ok None) new = (walk_left old ≡ Ok []) × (new.key ≡ old.key)
+Steps old (Ok None) new = (walk_left old ≡ Ok []) × (new.key ≡ old.key) × (new ≡ old)
 Steps old (Err error) new = Tells (Err error) (walk_left old)

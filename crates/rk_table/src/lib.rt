@@ -5,7 +5,9 @@
 mod bounds;
 mod data;
 mod fault;
+mod front;
 mod head;
+mod iter;
 mod properties;
 mod records;
 mod rows;
@@ -18,10 +20,9 @@ mod whole;
 
 pub use rk_bytes::model::{Record, TableRef, TableWhat, TableWhy};
 pub use rk_meta::{Handle, IndexEntry, Property, RangeDel, SumKind, TrailerFault, Want};
+pub use iter::TableIter;
 pub use rows::block_records;
 pub use run::StatusRun;
 pub use status::{Status, WalkErr};
 pub use whole::table_status;
 
-#[cfg(test)]
-mod tests;

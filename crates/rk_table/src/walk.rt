@@ -1,11 +1,11 @@
 //! A walk over the records of one data block.
-ghost use Rattle.std.specs.Prelude.{◌≡◌, ◌≤◌, ℕ, List, length, if◌then◌else◌, Some, None, IfErr, OnOk};
+ghost use Rattle.std.specs.Prelude.{◌≡◌, ◌≤◌, ℕ, List, length, if◌then◌else◌, Some, None, IfErr, IfSome, OnOk};
 ghost use Rattle.std.specs.Option.{ForSome};
 ghost use Rattle.rk_bytes.specs.Model.BlockEntries.{Entry};
 ghost use Rattle.rk_bytes.specs.Model.InternalKey.{key_parts};
 ghost use Rattle.rk_bytes.specs.Model.TableStatus.{entry_after};
 ghost use Rattle.rk_table.specs.Told.{Tells, value_of};
-ghost use Rattle.rk_table.specs.Walks.{entry_made, Begins, Steps, IsWalk};
+ghost use Rattle.rk_table.specs.Walks.{entry_made, before_of, Begins, Steps, IsWalk};
 
 use crate::fault::{block_fault, damaged};
 use crate::{TableWhat, TableWhy, WalkErr};
@@ -88,6 +88,15 @@ impl<'a> Walk<'a> {
             kind,
             value: entry.value,
         }))
+    }
+
+    /// The key of the last record before those that are left, if there is one.
+    pub(crate) fn last_key(&self) -> Option<&[u8]>
+        requires { IsWalk self.now }
+        ensures value { value_of result ≡ before_of self.now }
+        ensures long { IfSome result (λ key. 8 ≤ length key.now) }
+    {
+        kept_key(&self.before, self.has_before)
     }
 
     /// The key of the record that was handed out last.

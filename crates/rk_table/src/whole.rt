@@ -3,6 +3,7 @@ ghost use Rattle.std.specs.Prelude.{◌≡◌, ◌<◌, ℕ, List, take, IfOk, O
 ghost use Rattle.rk_table.specs.Steps.{IsSoundStatus};
 ghost use Rattle.rk_table.specs.Runs.{want_of, left, Follows, IsStatus};
 
+use crate::front::front;
 use crate::{Handle, Status, StatusRun, SumKind, Want};
 use rk_bytes::Memory;
 use rk_meta::checked_block;
@@ -46,15 +47,5 @@ fn serve_block(
             run.give_fault(fault);
             Ok(())
         }
-    }
-}
-
-/// The bytes up to this end, or all of them where there are fewer.
-fn front(bytes: &[u8], end: u64) -> &[u8]
-    ensures { result.now ≡ take end bytes.now }
-{
-    match usize::try_from(end) {
-        Ok(end) if end <= bytes.len() => &bytes[..end],
-        _ => bytes,
     }
 }
