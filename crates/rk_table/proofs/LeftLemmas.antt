@@ -1,5 +1,6 @@
 -- The data records of a good table, from one block to the next.
-use Rattle.std.proofs.Common.{◌≡◌, ℕ, zero, suc, ◌+◌, ◌-◌, ◌<◌, ◌≤◌, Bool, true, false, cond, List, [], ◌∷◌, ◌++◌, length, map, take, drop, Option, Some, None, Result, Ok, Err, refl, sym, ◌∙◌, ap, subst, arith, append_assoc, append-nil, inl, inr, ◌⊎◌}
+use Rattle.std.proofs.Common.{◌≡◌, ℕ, zero, suc, ◌+◌, ◌-◌, ◌<◌, ◌≤◌, Bool, true, false, cond, List, [], ◌∷◌, ◌++◌, length, get_or, map, take, drop, Option, Some, None, Result, Ok, Err, refl, sym, ◌∙◌, ap, subst}
+use Rattle.std.specs.Prelude.{slice_get}
 use Rattle.std.specs.List.{last_or}
 use Rattle.std.proofs.lemmas.List.{drop_all}
 use Rattle.rk_bytes.specs.declared.model.block.IndexEntry.{IndexEntry}
@@ -20,7 +21,8 @@ use Rattle.rk_table.specs.declared.walk.Walk.{Walk}
 use Rattle.rk_table.specs.Told.{Tells}
 use Rattle.rk_table.specs.Walks.{before_of, walk_left, block_told, IsWalk, handed_out, preceded, HandsOut}
 use Rattle.rk_table.specs.Stages.{separator_before}
-use Rattle.rk_table.specs.Left.{blocks_of, from_block, after_walk, entries_left, records_told, Opened}
+use Rattle.rk_table.specs.Left.{blocks_of, from_block, after_walk, entries_left, records_told, Opened, TakesBlock}
+use Rattle.rk_table.specs.Rows.{GivesRecords}
 use Rattle.rk_table.proofs.DataLemmas.{later_is}
 
 -- a good table's records
@@ -126,3 +128,32 @@ pub reads_on : (told : Result (List DataEntry) TableFault) (entries : List DataE
 reads_on told entries (err.Damaged why place) e told_is other = let no : Ok entries ≡ Err (damaged why place) = sym e ∙ told_is in absurd cc
 reads_on told entries (err.Unsupported what) e told_is other = let no : Ok entries ≡ Err (unsupported what) = sym e ∙ told_is in absurd cc
 reads_on told entries err.Memory e told_is other = other refl
+
+-- the entry of an index at a number
+entry_at_number : (n : ℕ) (index : List IndexEntry) (at : IndexEntry) → slice_get index n ≡ Some at → (later : List IndexEntry) × (drop n index ≡ at ∷ later)
+entry_at_number n [] at e = absurd cc
+entry_at_number zero (first ∷ index) at e = let same : first ≡ at = cc in (index, ap (λ (at : IndexEntry). at ∷ index) same)
+entry_at_number (suc n) (first ∷ index) at e = entry_at_number n index at e
+
+-- what a block's records are, of a good table
+pub takes_block : (bytes : List ℕ) (table : TableRef) (number : ℕ) (before : Option (List ℕ)) (at : IndexEntry) (block : List ℕ) (entries : List DataEntry) (result : Result (List Record) WalkErr) → slice_get table.index number ≡ Some at → checked_block (take table.start bytes) at.block table.sum ≡ Ok block
+    → from_block bytes table number before ≡ Ok entries → GivesRecords table.family at.block.offset before block result → TakesBlock bytes table number entries result
+takes_block bytes table number before at block entries result there handed read gives =
+    let (later, dropped) = entry_at_number number table.index at there in
+    let next = next_block bytes table number before at later entries dropped read in
+    let same : next.block ≡ block = let e : Ok next.block ≡ Ok block = sym next.handed ∙ handed in cc in
+    let told = ap (block_told at.block.offset before) (sym same) ∙ next.told in
+    by result told gives (next.rest) next.all
+  where
+    by : {first : DataEntry} {more rest : List DataEntry} (result : Result (List Record) WalkErr) → block_told at.block.offset before block ≡ Ok (first ∷ more) → GivesRecords table.family at.block.offset before block result → from_block bytes table (number + 1) (last_key (first ∷ more)) ≡ Ok rest → entries ≡ (first ∷ more) ++ rest → TakesBlock bytes table number entries result
+    by {first} {more} {rest} (Ok records) told gives after all =
+      let same : gives.entries ≡ first ∷ more = let e : Ok gives.entries ≡ Ok (first ∷ more) = sym gives.told ∙ told in cc in
+      record { front = first ∷ more; rest = rest; all = all; are = gives.are ∙ ap (map (record_in table.family)) same; after = after }
+    by {first} {more} {rest} (Err (err.Damaged why place)) told gives after all = let no : Ok (first ∷ more) ≡ Err (damaged why place) = sym told ∙ gives in absurd cc
+    by {first} {more} {rest} (Err (err.Unsupported what)) told gives after all = let no : Ok (first ∷ more) ≡ Err (unsupported what) = sym told ∙ gives in absurd cc
+    by {first} {more} {rest} (Err err.Memory) told gives after all = refl
+
+pub same_at : (n : ℕ) (index : List IndexEntry) (at other : IndexEntry) → slice_get index n ≡ Some at → get_or index n other ≡ at
+same_at n [] at other e = absurd cc
+same_at zero (first ∷ index) at other e = cc
+same_at (suc n) (first ∷ index) at other e = same_at n index at other e

@@ -6,8 +6,10 @@ use Rattle.rk_bytes.specs.declared.model.table.TableRef.{TableRef}
 use Rattle.rk_bytes.specs.Model.Numbers.{◌>>=◌}
 use Rattle.rk_bytes.specs.Model.BlockEntries.{with_fault}
 use Rattle.rk_bytes.specs.Model.TableFooter.{checked_block}
-use Rattle.rk_bytes.specs.Model.TableStatus.{TableFault, BlockReader, DataEntry, Good, trailer_status, data_records, record_in, table_status}
+use Rattle.rk_bytes.specs.Model.TableStatus.{TableFault, BlockReader, DataEntry, Good, last_key, trailer_status, data_records, record_in, table_status}
 use Rattle.rk_bytes.specs.declared.memory.Memory.{Memory}
+use Rattle.rk_table.specs.declared.status.WalkErr.{WalkErr}
+use Rattle.rk_table.specs.declared.status.WalkErr.TheVariants as err
 use Rattle.rk_table.specs.declared.walk.Checked.{Checked}
 use Rattle.rk_table.specs.declared.walk.Walk.{Walk}
 use Rattle.rk_table.specs.Walks.{before_of, walk_left, IsWalk, handed_out, HandsOut}
@@ -90,3 +92,16 @@ abbrev pub GivesNext : IterSeen → Result (Option Record) Memory → IterSeen �
 GivesNext old (Ok (Some one)) new = (old.left ≡ one ∷ new.left) × (old.failed ≡ false) × (new.failed ≡ false)
 GivesNext old (Ok None) new = (old.left ≡ []) × (new.left ≡ []) × (old.failed ≡ false) × (new.failed ≡ false)
 GivesNext old (Err error) new = new.failed ≡ true
+
+-- the first of these entries are the records of the data block with this number, and the others those of the blocks after it
+pub record AreFirst (bytes : List ℕ) (table : TableRef) (number : ℕ) (entries : List DataEntry) (records : List Record) : Type 0 where
+  pub front : List DataEntry
+  pub rest : List DataEntry
+  pub all : entries ≡ front ++ rest
+  pub are : records ≡ map (record_in table.family) front
+  pub after : from_block bytes table (number + 1) (last_key front) ≡ Ok rest
+
+-- the records of the next data block are given, or memory ran out
+abbrev pub TakesBlock : List ℕ → TableRef → ℕ → List DataEntry → Result (List Record) WalkErr → Type 0
+TakesBlock bytes table number entries (Ok records) = AreFirst bytes table number entries records
+TakesBlock bytes table number entries (Err error) = error ≡ err.Memory

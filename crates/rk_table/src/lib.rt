@@ -26,3 +26,6 @@ pub use run::StatusRun;
 pub use status::{Status, WalkErr};
 pub use whole::table_status;
 
+
+#[cfg(test)]
+mod tests;

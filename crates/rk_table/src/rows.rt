@@ -1,9 +1,11 @@
 //! The records of one data block of a table.
-ghost use Rattle.std.specs.Prelude.{◌≡◌, ◌≤◌, ◌<◌, ◌∷◌, ◌++◌, [], Some, length, slice_get, IfOk, IfErr, OnOk};
+ghost use Rattle.std.specs.Prelude.{◌≡◌, ◌≤◌, ◌<◌, ◌∷◌, ◌++◌, [], ℕ, List, Some, Ok, take, length, slice_get, IfOk, IfErr, OnOk};
 ghost use Rattle.std.specs.Option.{ForSome};
-ghost use Rattle.rk_bytes.specs.Model.TableStatus.{record_in};
+ghost use Rattle.rk_bytes.specs.Model.TableStatus.{DataEntry, record_in};
 ghost use Rattle.rk_table.specs.Told.{value_of};
 ghost use Rattle.rk_table.specs.Walks.{handed_out};
+ghost use Rattle.rk_bytes.specs.Model.TableFooter.{checked_block};
+ghost use Rattle.rk_table.specs.Left.{from_block, TakesBlock};
 ghost use Rattle.rk_table.specs.Rows.{GivesRecords};
 
 use crate::walk::{Checked, Walk};
@@ -26,7 +28,9 @@ pub fn block_records(
 ) -> Result<Seq<Record>, WalkErr>
     requires number { number < length table.now.index }
     requires after { ForSome after (λ key. 8 ≤ length key.now) }
-    ensures { (at : IndexEntry) → slice_get table.now.index number ≡ Some at → GivesRecords table.now.family at.block.offset (value_of after.entry) block.now result }
+    ensures records { (at : IndexEntry) → slice_get table.now.index number ≡ Some at → GivesRecords table.now.family at.block.offset (value_of after.entry) block.now result }
+    // Of a good table's bytes, where what is left of its records begins with this block.
+    ensures good { (bytes : List ℕ) (at : IndexEntry) (entries : List DataEntry) → slice_get table.now.index number ≡ Some at → checked_block (take table.now.start bytes) at.block table.now.sum ≡ Ok block.now → from_block bytes table.now number (value_of after.entry) ≡ Ok entries → TakesBlock bytes table.now number entries result }
 {
     let place = table.index.as_slice()[number as usize].block.offset;
     walk_records(alloc, table.family, place, after, block)
