@@ -88,8 +88,8 @@ opened bytes table number before at entries walk read next is told before_is =
       more = next.more;
       here = here;
       all = ap (after_walk bytes table (number + 1) (before_of walk)) here
-        ∙ ap (λ r. r >>= (λ later. Ok ((next.first ∷ next.more) ++ later))) next.rest
-        ∙ ap Ok (sym next.all) ∙ sym read;
+          ∙ ap (λ r. r >>= (λ later. Ok ((next.first ∷ next.more) ++ later))) next.rest
+          ∙ ap Ok (sym next.all) ∙ sym read;
     }
 
 -- the entries after one that was handed out
@@ -147,8 +147,8 @@ takes_block bytes table number before at block entries result there handed read 
   where
     by : {first : DataEntry} {more rest : List DataEntry} (result : Result (List Record) WalkErr) → block_told at.block.offset before block ≡ Ok (first ∷ more) → GivesRecords table.family at.block.offset before block result → from_block bytes table (number + 1) (last_key (first ∷ more)) ≡ Ok rest → entries ≡ (first ∷ more) ++ rest → TakesBlock bytes table number entries result
     by {first} {more} {rest} (Ok records) told gives after all =
-      let same : gives.entries ≡ first ∷ more = let e : Ok gives.entries ≡ Ok (first ∷ more) = sym gives.told ∙ told in cc in
-      record { front = first ∷ more; rest = rest; all = all; are = gives.are ∙ ap (map (record_in table.family)) same; after = after }
+        let same : gives.entries ≡ first ∷ more = let e : Ok gives.entries ≡ Ok (first ∷ more) = sym gives.told ∙ told in cc in
+        record { front = first ∷ more; rest = rest; all = all; are = gives.are ∙ ap (map (record_in table.family)) same; after = after }
     by {first} {more} {rest} (Err (err.Damaged why place)) told gives after all = let no : Ok (first ∷ more) ≡ Err (damaged why place) = sym told ∙ gives in absurd cc
     by {first} {more} {rest} (Err (err.Unsupported what)) told gives after all = let no : Ok (first ∷ more) ≡ Err (unsupported what) = sym told ∙ gives in absurd cc
     by {first} {more} {rest} (Err err.Memory) told gives after all = refl

@@ -115,11 +115,7 @@ fn last_key<'b>(walk: &'b Option<Walk<'_>>) -> Option<&'b [u8]>
 }
 
 /// The next record of a walk over a block that reads, under this family.
-fn next_of_walk(
-    alloc: Global,
-    family: u32,
-    walk: &mut Walk<'_>,
-) -> Result<Option<Record>, Memory>
+fn next_of_walk(alloc: Global, family: u32, walk: &mut Walk<'_>) -> Result<Option<Record>, Memory>
     requires walk { IsWalk walk.old }
     requires reads { (more : List DataEntry) × (walk_left walk.old ≡ Ok more) }
     ensures { RecordOf family walk.old result walk.new }

@@ -18,14 +18,13 @@ mod tail;
 mod walk;
 mod whole;
 
+pub use iter::TableIter;
 pub use rk_bytes::model::{Record, TableRef, TableWhat, TableWhy};
 pub use rk_meta::{Handle, IndexEntry, Property, RangeDel, SumKind, TrailerFault, Want};
-pub use iter::TableIter;
 pub use rows::block_records;
 pub use run::StatusRun;
 pub use status::{Status, WalkErr};
 pub use whole::table_status;
-
 
 #[cfg(test)]
 mod tests;

@@ -13,8 +13,7 @@ returns c =
     let new = c.next_of_walk.new.walk in
     let (checked, out, are) = subst (λ (o : Option Record). RecordOf table.family c.in-Some.open (Ok o) new) c.in-Some-2.is c.in_ok-record.ensures in
     let told = ap (entries_left bytes table number) (sym c.in-Some.is) ∙ c.requires.told in
-    let (later, rest, split) = one_out table.family (entries_left bytes table number (Some c.in-Some.open)) (entries_left bytes table number (Some new)) (handed_out checked new.key) c.requires.entries (handed_left bytes table number c.in-Some.open new checked out) told in
-    (
+    let (later, rest, split) = one_out table.family (entries_left bytes table number (Some c.in-Some.open)) (entries_left bytes table number (Some new)) (handed_out checked new.key) c.requires.entries (handed_left bytes table number c.in-Some.open new checked out) told in (
       record { entries = later; told = rest; walks = out.walk },
       ap (records_left bytes table number) c.in-Some.is ∙ split ∙ ap (λ (one : Record). one ∷ records_left bytes table number (Some new)) (sym are),
     )
