@@ -1,5 +1,5 @@
 -- The bounds of a table's keys over its range deletions.
-use Rattle.std.proofs.Common.{◌≡◌, ℕ, ◌+◌, ◌-◌, ◌^◌, ◌<◌, ◌≤◌, Bool, true, false, cond, List, [], ◌∷◌, ◌++◌, length, get_or, map, fold, drop, max, Option, Some, None, refl, sym, ◌∙◌, ap, subst, arith, drop-cons, length-append, add-one}
+use Rattle.std.proofs.Common.{◌≡◌, ℕ, ◌+◌, ◌<◌, ◌≤◌, Bool, true, false, cond, List, ◌∷◌, ◌++◌, length, get_or, map, fold, drop, Option, Some, None, sym, ◌∙◌, subst, arith, drop-cons, length-append, add-one}
 use Rattle.std.specs.Prelude.{IfSome}
 use Rattle.std.specs.List.{reduce}
 use Rattle.std.specs.Ordering.{is_gt, is_lt}

@@ -1,10 +1,10 @@
 -- The data blocks of a table, one after another.
-use Rattle.std.proofs.Common.{◌≡◌, ℕ, zero, suc, ◌+◌, ◌-◌, ◌^◌, ◌<◌, ◌≤◌, Bool, true, false, cond, List, [], ◌∷◌, ◌++◌, length, get_or, map, fold, take, drop, min, max, Option, Some, None, Result, Ok, Err, refl, sym, ◌∙◌, ap, subst, arith, append_assoc}
+use Rattle.std.proofs.Common.{◌≡◌, ℕ, zero, suc, ◌+◌, ◌-◌, ◌^◌, ◌<◌, ◌≤◌, Bool, true, false, cond, List, [], ◌∷◌, ◌++◌, length, map, fold, take, drop, min, max, Option, Some, None, Result, Ok, Err, refl, sym, ◌∙◌, ap, subst, arith}
 use Rattle.std.proofs.lemmas.List.{length-append, drop_all}
 use Rattle.std.specs.Prelude.{unwrap_or, nat_le, ◌&&◌, ◌||◌}
 use Rattle.std.specs.List.{last_or, reduce, list_all, AllByRecursion}
 use Rattle.std.proofs.lemmas.Bool.{leb-true}
-use Rattle.std.specs.Ordering.{is_gt, is_lt, ordering_reverse, nat_cmp}
+use Rattle.std.specs.Ordering.{is_gt, is_lt, ordering_reverse}
 use Rattle.std.specs.declared.cmp.Ordering.{Ordering}
 use Rattle.std.specs.declared.cmp.Ordering.TheVariants.{Less, Equal, Greater}
 use Rattle.std.specs.Cmp.{IsTotalOrder, on_total, back_total, then_total, nat_cmp_total, upto, tied_itself}
@@ -19,11 +19,10 @@ use Rattle.rk_bytes.specs.Model.Numbers.{◌>>=◌}
 use Rattle.rk_bytes.specs.Model.BlockEntries.{Entry, with_fault, block_entries, index_entries}
 use Rattle.rk_bytes.proofs.Callers.Readings.{both_steps, taken}
 use Rattle.rk_bytes.specs.Model.InternalKey.{user_key, packed, key_cmp}
-use Rattle.rk_bytes.specs.Model.TableStatus.{TableFault, damaged, BlockReader, DataEntry, index_status, block_status, is_set, user_separators, delta_values, held, is_above, reader_of, records_after, last_key, are_separated, data_block, data_records, start_key, end_key, lesser, greater, good}
+use Rattle.rk_bytes.specs.Model.TableStatus.{TableFault, damaged, BlockReader, DataEntry, index_status, block_status, is_set, user_separators, delta_values, is_above, reader_of, records_after, last_key, are_separated, data_block, data_records, start_key, end_key, lesser, greater, good}
 use Rattle.rk_table.specs.declared.bounds.Bounds.{Bounds}
 use Rattle.rk_table.specs.declared.records.Records.{Records}
 use Rattle.rk_table.specs.Stages.{listed, with_entries, separator_before, after_blocks}
-use Rattle.rk_bytes.specs.Model.TableFooter.{checked_block}
 use Rattle.rk_table.specs.Steps.{AreBounds, IsBefore, Hands, block_wanted}
 use Rattle.rk_table.specs.Blocks.{data_told, Rise, top_with, AreRecords}
 use Rattle.rk_table.specs.Data.{index_told, new_table, advanced, closed, AreRangeBounds}

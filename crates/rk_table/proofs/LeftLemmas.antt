@@ -1,13 +1,11 @@
 -- The data records of a good table, from one block to the next.
-use Rattle.std.proofs.Common.{◌≡◌, ℕ, zero, suc, ◌+◌, ◌-◌, ◌<◌, ◌≤◌, Bool, true, false, cond, List, [], ◌∷◌, ◌++◌, length, get_or, map, take, drop, Option, Some, None, Result, Ok, Err, refl, sym, ◌∙◌, ap, subst}
+use Rattle.std.proofs.Common.{◌≡◌, ℕ, zero, suc, ◌+◌, ◌≤◌, Bool, true, List, [], ◌∷◌, ◌++◌, length, get_or, map, take, drop, Option, Some, None, Result, Ok, Err, refl, sym, ◌∙◌, ap, subst}
 use Rattle.std.specs.Prelude.{slice_get}
 use Rattle.std.specs.List.{last_or}
 use Rattle.std.proofs.lemmas.List.{drop_all}
 use Rattle.rk_bytes.specs.declared.model.block.IndexEntry.{IndexEntry}
 use Rattle.rk_bytes.specs.declared.model.key.Record.{Record}
-use Rattle.rk_bytes.specs.declared.model.table.Footer.{Footer}
 use Rattle.rk_bytes.specs.declared.model.table.TableRef.{TableRef}
-use Rattle.rk_bytes.specs.declared.model.table.TrailerFault.{TrailerFault}
 use Rattle.rk_bytes.specs.declared.model.table.TableWhy.TheVariants.{BadSeparator}
 use Rattle.rk_bytes.specs.Model.Numbers.{◌>>=◌}
 use Rattle.rk_bytes.specs.Model.BlockEntries.{Entry, with_fault, block_entries}

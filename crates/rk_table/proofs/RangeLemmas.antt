@@ -1,8 +1,8 @@
 -- The sequence numbers of range deletions that bytes spell are at most the greatest.
-use Rattle.std.proofs.Common.{◌≡◌, ℕ, zero, suc, ◌+◌, ◌-◌, ◌*◌, ◌/◌, ◌%◌, ◌^◌, ◌<◌, ◌≤◌, Bool, true, false, cond, List, [], ◌∷◌, ◌++◌, length, get_or, take, drop, Option, Some, None, Result, Ok, Err, refl, sym, ◌∙◌, ◌⊎◌, inl, inr, ap, subst, arith, length-drop}
+use Rattle.std.proofs.Common.{◌≡◌, ℕ, zero, suc, ◌+◌, ◌-◌, ◌*◌, ◌/◌, ◌%◌, ◌^◌, ◌<◌, ◌≤◌, List, [], ◌∷◌, ◌++◌, length, get_or, take, drop, Option, Some, None, Result, Ok, Err, refl, sym, ◌∙◌, ◌⊎◌, inl, inr, ap, subst, arith, length-drop}
 use Rattle.std.proofs.lemmas.Bool.{ltb-false}
 use Rattle.std.proofs.lemmas.List.{take-append-drop}
-use Rattle.std.specs.Prelude.{◌==◌, ◌||◌, nat_lt, nat_le, find, option_map, ok_or}
+use Rattle.std.specs.Prelude.{◌==◌, ◌||◌, nat_lt, nat_le, option_map, ok_or}
 use Rattle.std.specs.List.{AllByRecursion}
 use Rattle.rk_bytes.specs.declared.model.block.RangeDel.{RangeDel}
 use Rattle.rk_bytes.specs.declared.model.block.RangeFault.{RangeFault}
@@ -11,9 +11,9 @@ use Rattle.rk_bytes.specs.declared.model.block.BlockFault.{BlockFault}
 use Rattle.rk_bytes.specs.declared.model.block.BlockFault.TheVariants.{Short, HashIndex, BadEntry, BadRestarts}
 use Rattle.rk_bytes.specs.declared.model.key.Kind.{Kind}
 use Rattle.rk_bytes.specs.declared.model.key.KeyFault.{KeyFault}
-use Rattle.rk_bytes.specs.Model.Numbers.{AreBytes, little_endian, ◌>>=◌, part_of, varint32_at}
+use Rattle.rk_bytes.specs.Model.Numbers.{AreBytes, little_endian, part_of, varint32_at}
 use Rattle.rk_bytes.specs.Model.BlockEntries.{Entry, with_fault, collected, entry_at, next_entry, no_entry, entries_after, restart_count, fixed32s, block_parts, right_restarts, block_entries}
-use Rattle.rk_bytes.specs.Model.InternalKey.{KeyParts, user_key, packed, kind_number, all_kinds, kind_of, kind_fault, key_parts, top_sequence}
+use Rattle.rk_bytes.specs.Model.InternalKey.{KeyParts, user_key, packed, kind_of, key_parts, top_sequence}
 use Rattle.rk_bytes.specs.Model.TableStatus.{is_range_deletion, range_of, range_list}
 use Rattle.rk_bytes.proofs.Callers.FixedNumbers.{fixed_bound}
 use Rattle.rk_bytes.proofs.Callers.Readings.{both_steps, with_fault_ok, passed, taken, bytes_after, bytes_before, part_of_ok, varint32_ok}

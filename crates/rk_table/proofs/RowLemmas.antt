@@ -1,7 +1,7 @@
 -- The records of a data block, one after another.
-use Rattle.std.proofs.Common.{◌≡◌, ℕ, List, [], ◌∷◌, ◌++◌, map, Option, Some, None, Result, Ok, Err, refl, sym, ◌∙◌, ap, subst, append_assoc, append-nil}
+use Rattle.std.proofs.Common.{◌≡◌, ℕ, List, [], ◌∷◌, ◌++◌, map, Option, Ok, Err, sym, ◌∙◌, ap, subst, append_assoc, append-nil}
 use Rattle.rk_bytes.specs.declared.model.key.Record.{Record}
-use Rattle.rk_bytes.specs.Model.TableStatus.{TableFault, DataEntry, record_in}
+use Rattle.rk_bytes.specs.Model.TableStatus.{DataEntry, record_in}
 use Rattle.rk_table.specs.declared.status.WalkErr.{WalkErr}
 use Rattle.rk_table.specs.declared.walk.Checked.{Checked}
 use Rattle.rk_table.specs.declared.walk.Walk.{Walk}

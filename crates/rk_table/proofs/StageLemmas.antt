@@ -1,5 +1,5 @@
 -- A block that is handed in is the one that the definition reads.
-use Rattle.std.proofs.Common.{◌≡◌, ℕ, List, [], ◌∷◌, map, find, Option, Some, None, Bool, true, false, cond, Result, Ok, Err, refl, sym, ap, ◌∙◌}
+use Rattle.std.proofs.Common.{◌≡◌, ℕ, List, [], ◌∷◌, map, find, Some, None, Bool, true, false, cond, Result, Ok, Err, refl, sym, ap, ◌∙◌}
 use Rattle.std.specs.Prelude.{take, option_map, bytes_eq, codes}
 use Rattle.rk_bytes.specs.declared.model.block.Handle.{Handle}
 use Rattle.rk_bytes.specs.declared.model.block.IndexEntry.{IndexEntry}
@@ -17,7 +17,7 @@ use Rattle.rk_table.specs.declared.status.WalkErr.TheVariants as err
 use Rattle.rk_table.specs.declared.stage.Stage.{Stage}
 use Rattle.rk_table.specs.Told.{known, Tells}
 use Rattle.rk_table.specs.Steps.{meta_named, stopped_at, want_at, Hands, Continues}
-use Rattle.rk_table.specs.Stages.{left_of, after_metaindex, after_properties, after_ranges}
+use Rattle.rk_table.specs.Stages.{left_of, after_metaindex}
 
 -- what the reader of a table gives, where the table has this block
 pub reads : (table : List ℕ) (footer : Footer) (handle : Handle) (block : List ℕ) → checked_block (take footer.start table) handle footer.sum ≡ Ok block → reader_of table footer handle ≡ Ok block

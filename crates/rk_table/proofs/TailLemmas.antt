@@ -1,5 +1,5 @@
 -- The footer of a table is that of its last bytes.
-use Rattle.std.proofs.Common.{◌≡◌, ℕ, ◌+◌, ◌-◌, ◌<◌, ◌≤◌, Bool, true, false, cond, List, [], length, drop, nat_lt, min, Option, Some, None, Result, Ok, Err, refl, sym, ap, subst, ◌∙◌, arith, length-drop}
+use Rattle.std.proofs.Common.{◌≡◌, ℕ, ◌+◌, ◌-◌, ◌<◌, ◌≤◌, Bool, true, false, cond, List, length, drop, nat_lt, min, Result, Ok, Err, refl, sym, ap, subst, ◌∙◌, arith, length-drop}
 use Rattle.std.specs.Prelude.{◌==◌, ◌||◌, take, slice_index}
 use Rattle.std.proofs.lemmas.Bool.{le-ltb, ltb-true, ltb-false}
 use Rattle.std.proofs.lemmas.List.{drop-drop}
@@ -12,7 +12,7 @@ use Rattle.rk_bytes.specs.declared.model.table.FooterFault.TheVariants.{FooterSh
 use Rattle.rk_bytes.specs.Model.Numbers.{little_endian, ◌>>=◌}
 use Rattle.rk_bytes.specs.Model.BlockEntries.{with_fault}
 use Rattle.rk_bytes.specs.Model.TableFooter.{footer_of, footer_len, footer_start, magic_of, newer_magic, legacy_magic, sum_kind, footer_handles, footer_with, newer_footer}
-use Rattle.rk_bytes.specs.Model.TableStatus.{TableFault, footer_status, reader_of, table_with, table_status}
+use Rattle.rk_bytes.specs.Model.TableStatus.{footer_status, reader_of, table_with, table_status}
 use Rattle.rk_bytes.proofs.Callers.Readings.{both_steps, passed}
 use Rattle.rk_table.specs.Told.{known}
 use Rattle.rk_table.specs.Runs.{moved}

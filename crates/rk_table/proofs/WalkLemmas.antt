@@ -1,5 +1,5 @@
 -- The steps of a walk over a data block.
-use Rattle.std.proofs.Common.{◌≡◌, ℕ, ◌+◌, ◌-◌, ◌^◌, ◌≤◌, Bool, true, false, cond, List, [], ◌∷◌, ◌++◌, length, map, fold, min, max, Option, Some, None, Result, Ok, Err, refl, sym, ◌∙◌, ap, subst, arith}
+use Rattle.std.proofs.Common.{◌≡◌, ℕ, ◌+◌, ◌-◌, ◌^◌, ◌≤◌, Bool, true, false, cond, List, [], ◌∷◌, length, map, min, max, Option, Some, None, Result, Ok, Err, refl, sym, ◌∙◌, ap, subst, arith}
 use Rattle.std.specs.Prelude.{unwrap_or, OnOk, not, ◌&&◌}
 use Rattle.std.specs.Result.{is_err}
 use Rattle.std.specs.List.{last_or}
@@ -11,7 +11,7 @@ use Rattle.rk_bytes.specs.declared.model.table.TableWhy.TheVariants.{BadKey, Bad
 use Rattle.rk_bytes.specs.Model.Numbers.{◌>>=◌}
 use Rattle.rk_bytes.specs.Model.BlockEntries.{Entry}
 use Rattle.rk_bytes.specs.Model.InternalKey.{KeyParts, user_key, key_parts, key_cmp}
-use Rattle.rk_bytes.specs.Model.TableStatus.{TableFault, damaged, unsupported, DataEntry, is_range_deletion, is_above, entry_after, records_after, last_key, separator_cmp, are_separated}
+use Rattle.rk_bytes.specs.Model.TableStatus.{TableFault, damaged, DataEntry, is_range_deletion, is_above, entry_after, records_after, last_key, separator_cmp, are_separated}
 use Rattle.rk_bytes.proofs.Callers.Readings.{passed, taken}
 use Rattle.rk_block.specs.declared.entry.RawEntry.{RawEntry}
 use Rattle.rk_block.specs.Raw.{key_after, entry_of}

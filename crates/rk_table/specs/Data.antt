@@ -1,7 +1,6 @@
 -- The index and the data blocks of a table.
-use Rattle.std.specs.Prelude.{◌≡◌, ℕ, ◌+◌, ◌-◌, ◌^◌, ◌≤◌, Bool, min, max, List, [], ◌∷◌, ◌++◌, length, map, fold, Option, Some, None, unwrap_or, nat_le, if◌then◌else◌, ◌||◌, Result, Ok, Err}
+use Rattle.std.specs.Prelude.{◌≡◌, ℕ, ◌+◌, ◌-◌, ◌^◌, min, max, List, ◌++◌, length, map, fold, Option, Some, None, unwrap_or, nat_le, if◌then◌else◌, ◌||◌, Result, Ok, Err}
 use Rattle.std.specs.List.{list_all, reduce}
-use Rattle.std.specs.Ordering.{is_gt, is_lt}
 use Rattle.rk_bytes.specs.declared.model.block.IndexEntry.{IndexEntry}
 use Rattle.rk_bytes.specs.declared.model.block.Property.{Property}
 use Rattle.rk_bytes.specs.declared.model.block.RangeDel.{RangeDel}

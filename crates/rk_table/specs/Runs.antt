@@ -1,11 +1,11 @@
 -- A run that finds a table's status, and the tables that it follows.
-use Rattle.std.specs.Prelude.{◌≡◌, ℕ, ◌+◌, ◌-◌, ◌^◌, ◌≤◌, min, List, length, drop, Option, Some, None, Result, Ok, Err}
+use Rattle.std.specs.Prelude.{◌≡◌, ℕ, ◌+◌, ◌-◌, ◌≤◌, List, length, drop, Option, Some, None, Result, Ok, Err}
 use Rattle.rk_bytes.specs.declared.model.table.Footer.{Footer}
 use Rattle.rk_bytes.specs.declared.model.table.FooterFault.{FooterFault}
 use Rattle.rk_bytes.specs.declared.model.table.TrailerFault.{TrailerFault}
 use Rattle.rk_bytes.specs.Model.TableStatus.{TableFault, trailer_status, table_status}
 use Rattle.rk_meta.specs.declared.want.Want.{Want}
-use Rattle.rk_meta.specs.declared.want.Want.TheVariants.{Tail, Block, Nothing}
+use Rattle.rk_meta.specs.declared.want.Want.TheVariants.{Tail, Block}
 use Rattle.rk_table.specs.declared.status.Status.{Status}
 use Rattle.rk_table.specs.declared.stage.Stage.{Stage}
 use Rattle.rk_table.specs.declared.stage.Stage.TheVariants as stage

@@ -1,5 +1,5 @@
 -- What is left to find out of a table.
-use Rattle.std.specs.Prelude.{◌≡◌, ℕ, ◌+◌, ◌-◌, ◌^◌, ◌≤◌, min, max, Bool, List, [], ◌∷◌, ◌++◌, length, map, take, drop, fold, Option, Some, None, Result, Ok, Err}
+use Rattle.std.specs.Prelude.{ℕ, ◌+◌, ◌-◌, ◌^◌, min, max, List, [], ◌∷◌, ◌++◌, length, map, take, drop, fold, Option, Some, None, Result, Ok}
 use Rattle.std.specs.List.{last_or, reduce}
 use Rattle.rk_bytes.specs.declared.model.block.Handle.{Handle}
 use Rattle.rk_bytes.specs.declared.model.block.IndexEntry.{IndexEntry}
@@ -7,11 +7,8 @@ use Rattle.rk_bytes.specs.declared.model.block.Property.{Property}
 use Rattle.rk_bytes.specs.declared.model.block.RangeDel.{RangeDel}
 use Rattle.rk_bytes.specs.declared.model.table.Footer.{Footer}
 use Rattle.rk_bytes.specs.declared.model.table.TableRef.{TableRef}
-use Rattle.rk_bytes.specs.declared.model.table.TrailerFault.{TrailerFault}
 use Rattle.rk_bytes.specs.Model.Numbers.{◌>>=◌}
-use Rattle.rk_bytes.specs.Model.TableFooter.{checked_block}
 use Rattle.rk_bytes.specs.Model.TableStatus.{TableFault, BlockReader, reader_of, held, list_of, range_status, range_list, properties_at, index_at, is_set, user_separators, data_records, DataEntry, start_key, end_key, lesser, greater, good, table_with, table_status}
-use Rattle.rk_table.specs.declared.status.Status.{Status}
 use Rattle.rk_table.specs.declared.stage.Stage.{Stage}
 use Rattle.rk_table.specs.declared.stage.Stage.TheVariants.{Tail, Metaindex, Properties, Ranges, Index, Data, Ended}
 use Rattle.rk_table.specs.Told.{found, known}

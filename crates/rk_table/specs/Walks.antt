@@ -1,12 +1,10 @@
 -- A walk over the records of a data block.
-use Rattle.std.specs.Prelude.{◌≡◌, ℕ, ◌+◌, ◌^◌, ◌≤◌, ◌∷◌, Bool, true, false, min, max, List, [], ◌++◌, length, map, fold, Option, Some, None, unwrap_or, if◌then◌else◌, Result, Ok, Err, IsTrue}
-use Rattle.std.specs.Option.{ForSome}
+use Rattle.std.specs.Prelude.{◌≡◌, ℕ, ◌+◌, ◌≤◌, ◌∷◌, true, List, [], ◌++◌, length, Option, Some, None, if◌then◌else◌, Result, Ok, Err}
 use Rattle.rk_bytes.specs.declared.model.key.Kind.{Kind}
 use Rattle.rk_bytes.specs.Model.Numbers.{◌>>=◌}
 use Rattle.rk_bytes.specs.Model.BlockEntries.{Entry, with_fault, block_entries}
-use Rattle.rk_bytes.specs.Model.InternalKey.{KeyParts, user_key, key_cmp}
-use Rattle.rk_bytes.specs.Model.TableStatus.{TableFault, DataEntry, block_status, is_above, records_after, last_key, are_separated}
-use Rattle.rk_block.specs.Seen.{EntriesSeen}
+use Rattle.rk_bytes.specs.Model.InternalKey.{user_key, key_cmp}
+use Rattle.rk_bytes.specs.Model.TableStatus.{TableFault, DataEntry, block_status, is_above, records_after}
 use Rattle.rk_table.specs.declared.status.WalkErr.{WalkErr}
 use Rattle.rk_table.specs.declared.walk.Checked.{Checked}
 use Rattle.rk_table.specs.declared.walk.Walk.{Walk}

@@ -1,4 +1,4 @@
-use Rattle.std.proofs.Common.{◌≡◌, ◌+◌, ◌<◌, ◌≤◌, ℕ, List, Ok, length, sym, subst, ap, ◌∙◌, arith}
+use Rattle.std.proofs.Common.{◌+◌, ◌<◌, ◌≤◌, List, Ok, length, sym, subst, ap, ◌∙◌}
 use Rattle.rk_bytes.specs.declared.model.table.TableRef.{TableRef}
 use Rattle.rk_bytes.specs.Model.TableStatus.{reader_of}
 use Rattle.rk_table.specs.Stages.{after_blocks}

@@ -1,4 +1,4 @@
-use Rattle.std.proofs.Common.{◌≡◌, ◌-◌, ℕ, suc, Option, Some, List, sym, subst, ◌∙◌, ap, arith, drop-cons}
+use Rattle.std.proofs.Common.{◌≡◌, ◌-◌, ℕ, suc, Some, sym, ◌∙◌, ap, arith, drop-cons}
 use Rattle.rk_table.specs.Stages.{separator_before}
 use Rattle.rk_table.proofs.DataLemmas.{later_suc}
 use Rattle.rk_table.proofs.data.separator_before.Goals as goal

@@ -1,4 +1,4 @@
-use Rattle.std.proofs.Common.{◌≡◌, sym, subst, ◌∙◌}
+use Rattle.std.proofs.Common.{sym, subst, ◌∙◌}
 use Rattle.std.specs.Prelude.{IfOk, Result, codes}
 use Rattle.rk_bytes.specs.Model.BlockEntries.{with_fault, index_entries}
 use Rattle.rk_bytes.specs.Model.TableStatus.{index_status, reader_of}

@@ -1,4 +1,4 @@
-use Rattle.std.proofs.Common.{◌≡◌, ◌∷◌, Option, Some, Ok, sym, subst, ap, ◌∙◌}
+use Rattle.std.proofs.Common.{◌∷◌, Option, Some, Ok, sym, subst, ap, ◌∙◌}
 use Rattle.rk_bytes.specs.declared.model.key.Record.{Record}
 use Rattle.rk_table.specs.Walks.{handed_out}
 use Rattle.rk_table.specs.Left.{RecordOf, entries_left, records_left}

@@ -1,5 +1,5 @@
-use Rattle.std.proofs.Common.{◌≡◌, ◌-◌, ◌≤◌, ℕ, List, Ok, Err, length, min, sym, subst, ap, ◌∙◌, arith}
-use Rattle.rk_bytes.specs.Model.TableFooter.{footer_of, footer_len}
+use Rattle.std.proofs.Common.{◌≡◌, ◌-◌, ℕ, Err, min, sym, subst, ap, ◌∙◌, arith}
+use Rattle.rk_bytes.specs.Model.TableFooter.{footer_len}
 use Rattle.rk_bytes.specs.Model.TableStatus.{footer_status}
 use Rattle.rk_table.proofs.TailLemmas.{IsTail, is_tail, footer_read, footer_faulty, start_within}
 use Rattle.rk_table.proofs.tail.after_tail.Goals as goal

@@ -1,4 +1,4 @@
-use Rattle.std.proofs.Common.{◌≡◌, sym, arith}
+use Rattle.std.proofs.Common.{sym, arith}
 use Rattle.rk_table.proofs.TailLemmas.{no_place}
 use Rattle.rk_table.proofs.tail.footer_place.Goals as goal
 
