@@ -1,0 +1,9 @@
+mod BoundLemmas
+mod DataLemmas
+mod RangeLemmas
+mod StageLemmas
+mod WalkLemmas
+mod TailLemmas
+mod RunLemmas
+mod RowLemmas
+mod LeftLemmas
