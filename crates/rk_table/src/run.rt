@@ -1,5 +1,5 @@
 //! A table's status, found of the parts of its file that are asked for one after another.
-ghost use Rattle.std.specs.Prelude.{◌≡◌, ◌<◌, ◌↔◌, ℕ, List, Ok, Err, length, OnOk, OnErr, IsOk, IfOk, IfErr};
+ghost use Rattle.std.specs.Prelude.{◌≡◌, ◌<◌, ◌↔◌, ℕ, List, Ok, Err, min, length, OnOk, OnErr, IsOk, IfOk, IfErr};
 ghost use Rattle.rk_table.specs.Steps.{Hands, IsSoundStatus, IsSound, NeedsBlock, Continues, steps_left};
 ghost use Rattle.rk_table.specs.Runs.{begun, want_of, left, Follows, IsStatus, AsksTail, AsksBlock, HandsTail};
 
@@ -8,7 +8,7 @@ use crate::fault::trailer_fault;
 use crate::head::{after_metaindex, after_properties, after_ranges};
 use crate::stage::Stage;
 use crate::tail::{MOST_FOOTER_LEN, after_tail, ended};
-use crate::{Handle, Status, TrailerFault, Want};
+use crate::{Handle, Status, TableWhy, TrailerFault, Want};
 use rk_bytes::Memory;
 use rk_bytes::model::Footer;
 use std::alloc::Global;
@@ -74,6 +74,7 @@ impl StatusRun {
         requires { AsksTail (want_of self.old) (length bytes.now) }
         ensures ok { IsOk result }
         ensures follows { (table : List ℕ) → Follows self.old table → HandsTail table (want_of self.old) bytes.now → Follows self.new table }
+        ensures short { length bytes.now < min 53 self.old.length → self.new.stage ≡ Stage.Ended (Status.Damaged TableWhy.FooterShort 0) }
         ensures left { left self.new < left self.old }
         ensures length { self.new.length ≡ self.old.length }
     {

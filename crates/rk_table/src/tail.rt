@@ -1,5 +1,5 @@
 //! The end of a table's file, where its footer stands.
-ghost use Rattle.std.specs.Prelude.{◌≡◌, ◌+◌, ◌-◌, ◌^◌, ◌≤◌, ℕ, List, Some, Err, IsSome, min, length, drop};
+ghost use Rattle.std.specs.Prelude.{◌≡◌, ◌+◌, ◌-◌, ◌^◌, ◌<◌, ◌≤◌, ℕ, List, Some, Err, IsSome, min, length, drop};
 ghost use Rattle.rk_bytes.specs.Model.TableFooter.{footer_len, magic_of};
 ghost use Rattle.rk_bytes.specs.Model.TableStatus.{TableFault, table_status};
 ghost use Rattle.rk_table.specs.Told.{known, fault_of};
@@ -29,6 +29,7 @@ const MAGIC_LEN: usize = 8;
 pub(crate) fn after_tail(file_len: u64, bytes: &[u8]) -> Stage
     requires { length bytes.now ≤ min 53 file_len }
     ensures ok { (table : List ℕ) → length table ≡ file_len → drop (length table - min 53 file_len) table ≡ bytes.now → left_of result table ≡ known (table_status table) }
+    ensures short { length bytes.now < min 53 file_len → result ≡ Stage.Ended (Status.Damaged TableWhy.FooterShort 0) }
     ensures sound { IsSound result }
     ensures lower { steps_left result ≤ 2 ^ 64 + 3 }
 {
