@@ -2,3 +2,4 @@ pub mod Faults
 pub mod CallPlan
 pub mod InMemory
 pub mod Named
+pub mod Parts

@@ -15,7 +15,7 @@ pub use disk::{Disk, DiskErr};
 pub use lying_disk::LyingDisk;
 pub use mem_disk::MemDisk;
 pub use mem_sink::MemSink;
-pub use read::{read_file, read_piece};
+pub use read::{read_file, read_part, read_piece};
 pub use sink::{Sink, SinkErr};
 
 #[cfg(test)]

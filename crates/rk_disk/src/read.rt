@@ -1,7 +1,8 @@
-ghost use Rattle.std.specs.Prelude.{◌≡◌, ◌+◌, ◌^◌, ◌<◌, ◌≤◌, ◌++◌, [], length, take, drop, IfOk, IfSome, unwrap_or};
+ghost use Rattle.std.specs.Prelude.{◌≡◌, ◌+◌, ◌^◌, ◌<◌, ◌≤◌, ◌++◌, ℕ, List, [], false, length, take, drop, IfOk, IfSome, Some, unwrap_or};
 ghost use Rattle.std.specs.FinMap as map;
 ghost use Rattle.rk_bytes.specs.Model.DiskImages.{IsLeft, contents_told, part_of_file, Counts};
 ghost use Rattle.rk_disk.specs.Faults.{disk_failed};
+ghost use Rattle.rk_disk.specs.Parts.{IsPart};
 
 use crate::{Disk, DiskErr};
 use rk_bytes::Bytes;
@@ -41,6 +42,34 @@ pub fn read_piece<D: Disk>(
         filled += got;
     }
     Ok(filled)
+}
+
+/// Reads the next part of a file of `size` bytes, which begins at `at`, into the buffer: as much as the
+/// buffer holds, or what is left. Says how long the part is, and whether it is the last one. A file that
+/// has fewer bytes than the size says ends with the part.
+///
+/// It takes no memory of its own. `Failed` comes where the disk fails. After an `Err` a part of the
+/// buffer may be filled.
+pub fn read_part<D: Disk>(
+    disk: &mut D,
+    name: &str,
+    at: u64,
+    size: u64,
+    buf: &mut [u8],
+) -> Result<(usize, bool), DiskErr>
+    requires { at ≤ size }
+    ensures room { length buf.new ≡ length buf.old }
+    ensures len { IfOk result (λ read. (read.0 ≤ length buf.old) × (at + read.0 ≤ size)) }
+    ensures full { IfOk result (λ read. read.1 ≡ false → (read.0 ≡ length buf.old) × (at + length buf.old < size)) }
+    ensures part { IfOk result (λ read. IfSome (contents_told (D.told disk.old)) (λ files. (bytes : List ℕ) → map.get files name.now ≡ Some bytes → length bytes ≡ size
+        → IsPart at bytes (take read.0 buf.new) read.1)) }
+    ensures left { IsLeft (D.told disk.old) (D.told disk.new) }
+    ensures faults { Counts (disk_failed result) (D.faults disk.old) (D.faults disk.new) }
+{
+    let room = buf.len() as u64;
+    let wanted = room.min(size - at) as usize;
+    let len = read_piece(disk, name, at, &mut buf[..wanted])?;
+    Ok((len, len < buf.len() || size - at == room))
 }
 
 /// The whole file, or `None` where there is no file of that name.

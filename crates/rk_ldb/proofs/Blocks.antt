@@ -9,7 +9,8 @@ use Rattle.rk_log.specs.declared.feed.LogFeed.{LogFeed}
 use Rattle.rk_log.specs.Left.{left, bytes_before}
 use Rattle.rk_ldb.specs.declared.items.Form.{Form}
 use Rattle.rk_ldb.specs.declared.stop.Stop.{Stop}
-use Rattle.rk_ldb.specs.Wrote.{Wrote, dump_lines, BlockWritten, WritesBlock, IsBlock}
+use Rattle.rk_disk.specs.Parts.{IsPart}
+use Rattle.rk_ldb.specs.Wrote.{Wrote, dump_lines, BlockWritten, WritesBlock}
 use Rattle.rk_ldb.proofs.Taken.{Wrote-nothing}
 
 -- what holds of the bytes of the file of this name, where the disk tells its files and this is its length
@@ -41,37 +42,14 @@ InLog-start taken form feed bytes begin =
 -- one block more
 pub InLog-block : (from between now : Option (List ℕ)) (form : Form) (first old new : LogFeed) (at : ℕ) (block : List ℕ) (is_last : Bool) (result : Result Bool Stop) → bytes_before old ≡ at
     → WritesBlock between now form old block is_last result new
-    → (bytes : List ℕ) → InLog from between form first old bytes → IsBlock at bytes block is_last
+    → (bytes : List ℕ) → InLog from between form first old bytes → IsPart at bytes block is_last
     → BlockWritten from now form (dump_lines form (left first bytes).items) (drop (at + length block) bytes) result new
 InLog-block from between now form first old new at block is_last result before writes bytes h is =
     writes from (dump_lines form (left first bytes).items) (drop (at + length block) bytes) is.follows
-    (subst (λ rest. Wrote from between (dump_lines form (left first bytes).items) (dump_lines form (left old rest).items)) (ap (λ at. drop at bytes) before ∙ is.parts) h)
+    (subst (λ rest. Wrote from between (dump_lines form (left first bytes).items) (dump_lines form (left old rest).items)) (ap (λ at. drop at bytes) before ∙ is.whole) h)
 
 -- the blocks up to the next one
 pub InLog-next : (from now : Option (List ℕ)) (form : Form) (first new : LogFeed) (at : ℕ) (block : List ℕ) (bytes : List ℕ) → bytes_before new ≡ at + length block
     → BlockWritten from now form (dump_lines form (left first bytes).items) (drop (at + length block) bytes) (Ok false) new → InLog from now form first new bytes
 InLog-next from now form first new at block bytes before wrote =
     subst (λ at. Wrote from now (dump_lines form (left first bytes).items) (dump_lines form (left new (drop at bytes)).items)) (sym before) wrote
-
--- ---- a block that is read
-
--- the part of a file that is asked for is a block
-block_read : (at size wanted : ℕ) (is_last : Bool) (bytes : List ℕ) → at ≤ size → wanted ≡ min (size - at) 32768 → length bytes ≡ size → (is_last ≡ true → size - at ≤ 32768)
-    → IsBlock at bytes (part_of_file at wanted bytes) is_last
-block_read at size wanted is_last bytes within asked len last =
-    let count : length (take wanted (drop at bytes)) ≡ wanted = length-take wanted (drop at bytes) ∙ omega (arith, within, asked, len, length-drop at bytes) in record {
-      parts = sym (take-append-drop wanted (drop at bytes)) ∙ ap (λ rest. take wanted (drop at bytes) ++ rest) (drop-drop wanted at bytes ∙ ap (λ n. drop n bytes) (omega (arith, count)));
-      follows = λ e. drop_all (at + length (take wanted (drop at bytes))) bytes (omega (arith, count, within, asked, len, last e));
-    }
-
--- a part that was read into a buffer, whatever stands behind it there
-pub block_in_buffer : (told : Option Told) (name : List ℕ) (at size wanted n : ℕ) (old new after : List ℕ) (is_last : Bool) → at ≤ size → wanted ≡ min (size - at) 32768 → length old ≡ wanted
-    → IfSome (contents_told told) (λ files. let part = part_of_file at (length old) (unwrap_or (get files name) []) in (n ≡ length part) × (new ≡ part ++ drop n old))
-    → (is_last ≡ true → size - at ≤ 32768) → OfFile told name size (λ bytes. IsBlock at bytes (take n (new ++ after)) is_last)
-block_in_buffer None name at size wanted n old new after is_last within asked room read last = tt
-block_in_buffer (Some told) name at size wanted n old new after is_last within asked room read last = λ bytes is len.
-    let found = part_of_file at (length old) (unwrap_or (get (contents told.now) name) []) in
-    let same : found ≡ part_of_file at wanted bytes = (λ i. take (room i) (drop at (unwrap_or (is i) []))) in
-    let front : take n (new ++ after) ≡ found =
-    ap (λ bytes. take n (bytes ++ after)) read.1 ∙ ap (take n) (append_assoc found (drop n old) after) ∙ ap (λ n. take n (found ++ (drop n old ++ after))) read.0 ∙ take-append_seam found (drop (length found) old ++ after) in
-    subst (λ block. IsBlock at bytes block is_last) (sym (front ∙ same)) (block_read at size wanted is_last bytes within asked len last)

@@ -7,5 +7,6 @@ mod EditLines
 mod Faults
 mod ItemLines
 mod ManifestDumps
+mod Openings
 mod NumberWords
 mod Taken

@@ -5,11 +5,13 @@ use Rattle.std.proofs.lemmas.Grind.{flat_map-append}
 use Rattle.std.proofs.lemmas.List.{append-nil, take_min, take-append-le}
 use Rattle.std.proofs.Math.Seq.{take-append-add}
 use Rattle.rk_bytes.specs.Model.Output.{Took, TookLines, TookFront, joined}
+use Rattle.rk_disk.specs.declared.disk.DiskErr.{DiskErr}
+use Rattle.rk_disk.specs.declared.disk.DiskErr.TheVariants as disk
 use Rattle.rk_disk.specs.declared.sink.SinkErr.{SinkErr}
 use Rattle.rk_disk.specs.declared.sink.SinkErr.TheVariants as sink
 use Rattle.rk_ldb.specs.declared.stop.Stop.{Stop}
 use Rattle.rk_ldb.specs.declared.stop.Stop.TheVariants.{Disk, Sink, Memory}
-use Rattle.rk_ldb.specs.Stops.{sink_stop, TookLine, TookUpTo, DiskStops}
+use Rattle.rk_ldb.specs.Stops.{disk_stop, sink_stop, TookLine, TookUpTo, DiskStops}
 use Rattle.rk_ldb.specs.Wrote.{Wrote}
 
 pub took_nothing : (taken : Option (List ℕ)) → Took taken taken []
@@ -136,3 +138,8 @@ pub Wrote-disk_stopped : (T U : Type 0) (before now : Option (List ℕ)) (all re
 Wrote-disk_stopped T U before now all rest Disk n m h stops = Wrote-lines before now all rest h
 Wrote-disk_stopped T U before now all rest Sink n m h stops = absurd stops
 Wrote-disk_stopped T U before now all rest Memory n m h stops = Wrote-lines before now all rest h
+
+-- the same, where a call of the disk gave nothing
+pub Wrote-disk_failed : (T : Type 0) (before now : Option (List ℕ)) (all rest : List (List ℕ)) (error : DiskErr) → Wrote before now all rest → TookUpTo {T = T} before now all (Err (disk_stop error))
+Wrote-disk_failed T before now all rest disk.Failed h = Wrote-lines before now all rest h
+Wrote-disk_failed T before now all rest disk.Memory h = Wrote-lines before now all rest h

@@ -1,20 +1,19 @@
 -- Why a command is refused, in the definitions' words.
-use Rattle.std.specs.Prelude.{ℕ, List}
+use Rattle.std.specs.Prelude.{ℕ, List, Result, Ok, Err}
 use Rattle.rk_bytes.specs.declared.model.open.OpenErr.{OpenErr}
-use Rattle.rk_bytes.specs.declared.model.open.OpenErr.TheVariants as open_err
+use Rattle.rk_bytes.specs.declared.model.open.OpenErr.TheVariants.{DiskFault, Memory}
 use Rattle.rk_bytes.specs.Model.Lines.{open_err_words, no_log_words}
 use Rattle.rk_ldb.specs.declared.refusal.Refusal.{Refusal}
-use Rattle.rk_ldb.specs.declared.refusal.Refusal.TheVariants.{NoLog, NoCurrent, BadCurrent, NoManifest}
+use Rattle.rk_ldb.specs.declared.refusal.Refusal.TheVariants.{NoLog, Open}
+use Rattle.rk_ldb.specs.declared.stop.Stop.{Stop}
+use Rattle.rk_ldb.specs.declared.stop.Stop.TheVariants as stop
 
 abbrev pub words_of : Refusal → List ℕ
 words_of (NoLog n) = no_log_words n
-words_of NoCurrent = open_err_words open_err.NoCurrent
-words_of (BadCurrent why) = open_err_words (open_err.BadCurrent why)
-words_of (NoManifest n) = open_err_words (open_err.NoManifest n)
+words_of (Open why) = open_err_words why
 
--- The refusal of opening that it is. A log that isn't there is none, and never asked for.
-abbrev pub opening_refusal : Refusal → OpenErr
-opening_refusal (NoLog n) = open_err.DiskFault
-opening_refusal NoCurrent = open_err.NoCurrent
-opening_refusal (BadCurrent why) = open_err.BadCurrent why
-opening_refusal (NoManifest n) = open_err.NoManifest n
+-- a fault of the disk and want of memory stop a command, and don't refuse it
+abbrev pub open_stop : OpenErr → Result Refusal Stop
+open_stop DiskFault = Err stop.Disk
+open_stop Memory = Err stop.Memory
+open_stop why = Ok (Open why)

@@ -57,8 +57,3 @@ abbrev pub WritesBlock : Option (List ℕ) → Option (List ℕ) → Form → Lo
 WritesBlock taken now form old block is_last result new =
     (start : Option (List ℕ)) (all : List (List ℕ)) (rest : List ℕ) → MayFollow is_last rest
     → Wrote start taken all (dump_lines form (left old (block ++ rest)).items) → BlockWritten start now form all rest result new
-
--- The bytes at this place of a file are a block and what follows it, which is nothing if it is the last one.
-pub record IsBlock (at : ℕ) (bytes block : List ℕ) (is_last : Bool) : Type 0 where
-  pub parts : drop at bytes ≡ block ++ drop (at + length block) bytes
-  pub follows : MayFollow is_last (drop (at + length block) bytes)

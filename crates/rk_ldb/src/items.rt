@@ -5,14 +5,14 @@ ghost use Rattle.rk_bytes.specs.Model.DiskImages.{IsLeft, contents_told};
 ghost use Rattle.rk_bytes.specs.Model.LogItems.{log_items};
 ghost use Rattle.rk_log.specs.Items.{item_of, is_end};
 ghost use Rattle.rk_log.specs.Left.{left, bytes_before};
-ghost use Rattle.rk_ldb.specs.Stops.{TookUpTo, DiskCounts, SinkCounts, DiskStops, OutputStops};
-ghost use Rattle.rk_ldb.specs.Wrote.{record_word, record_lines, form_lines, dump_lines, WritesBlock, IsBlock};
+ghost use Rattle.rk_ldb.specs.Stops.{TookUpTo, DiskCounts, SinkCounts, OutputStops};
+ghost use Rattle.rk_ldb.specs.Wrote.{record_word, record_lines, form_lines, dump_lines, WritesBlock};
 
 use crate::batch::write_batch;
 use crate::edit::write_edit;
 use crate::lines::write_line;
 use crate::stop::Stop;
-use rk_disk::{Disk, Sink, read_piece};
+use rk_disk::{Disk, Sink, read_part};
 use rk_log::{BLOCK_LEN, FeedItem, Item, LogFeed};
 use rk_text::Line;
 use std::alloc::Global;
@@ -99,46 +99,11 @@ fn write_blocks<D: Disk, S: Sink>(
 {
     let mut at = 0;
     loop {
-        let (len, last) = read_block(disk, name, at, size, buffer)?;
+        let (len, last) = read_part(disk, name, at, size, buffer)?;
         if write_block(feed, &buffer[..len], last, form, line, out)? {
             return Ok(());
         }
         at += BLOCK_LEN as u64;
-    }
-}
-
-/// Reads a block of a file at `at` into the buffer, where the file has `size` bytes, and says how long
-/// the block is and whether it is the last one. A file that ends earlier ends with the block.
-fn read_block<D: Disk>(
-    disk: &mut D,
-    name: &str,
-    at: u64,
-    size: u64,
-    buffer: &mut [u8],
-) -> Result<(usize, bool), Stop>
-    requires within { at ≤ size }
-    requires room { length buffer.old ≡ BLOCK_LEN }
-    ensures room { length buffer.new ≡ BLOCK_LEN }
-    ensures len { IfOk result (λ read. (read.0 ≤ BLOCK_LEN) × (at + read.0 ≤ size)) }
-    ensures full { IfOk result (λ read. read.1 ≡ false → (read.0 ≡ BLOCK_LEN) × (at + BLOCK_LEN < size)) }
-    ensures block { IfOk result (λ read. IfSome (contents_told (D.told disk.old)) (λ d. (bytes : List ℕ) → get d name.now ≡ Some bytes → length bytes ≡ size
-        → IsBlock at bytes (take read.0 buffer.new) read.1)) }
-    ensures counts { DiskStops (D.faults disk.old) (D.faults disk.new) result }
-    ensures left { IsLeft (D.told disk.old) (D.told disk.new) }
-{
-    let wanted = block_len(size - at);
-    let len = read_piece(disk, name, at, &mut buffer[..wanted])?;
-    Ok((len, len < BLOCK_LEN || size - at == BLOCK_LEN as u64))
-}
-
-/// The length of the next block, of so many bytes that are left.
-fn block_len(left: u64) -> usize
-    ensures { result ≡ min left BLOCK_LEN }
-{
-    if left < BLOCK_LEN as u64 {
-        left as usize
-    } else {
-        BLOCK_LEN
     }
 }
 

@@ -1,21 +1,19 @@
 //! The command `manifest_dump`.
 ghost use Rattle.std.specs.Prelude.{◌≡◌, IfOk, IfSome};
 ghost use Rattle.std.specs.FinMap.{get};
-ghost use Rattle.rk_bytes.specs.Model.BlockEntries.{with_fault};
 ghost use Rattle.rk_bytes.specs.Model.DiskImages.{IsLeft, contents_told};
-ghost use Rattle.rk_bytes.specs.Model.Opening.{named_manifest};
 ghost use Rattle.rk_bytes.specs.Model.Output.{manifest_dump_output};
 ghost use Rattle.rk_ldb.specs.Answers.{IsCommandAnswer};
-ghost use Rattle.rk_ldb.specs.Refusals.{opening_refusal};
-ghost use Rattle.rk_ldb.specs.Stops.{TookUpTo, DiskCounts, DiskStops, SinkCounts};
+ghost use Rattle.rk_ldb.specs.Stops.{TookUpTo, DiskCounts, SinkCounts};
 
 use crate::dump::dump_file;
 use crate::items::{Form, Records};
-use crate::refusal::{Refusal, refuse};
+use crate::refusal::{Refusal, refusal_of, refuse};
 use crate::stop::Stop;
 use rk_bytes::model::Status;
-use rk_disk::{Disk, Sink, read_file};
-use rk_names::{FileName, read_current};
+use rk_disk::{Disk, Sink};
+use rk_names::FileName;
+use rk_open::{OpenErr, named_manifest};
 use std::alloc::Global;
 
 /// Writes a line for each item of the manifest that `CURRENT` names and lines for what stands in its
@@ -37,9 +35,9 @@ pub(crate) fn manifest_dump<D: Disk, S: Sink>(
         records: Records::Edits,
         hex,
     };
-    match named_manifest(alloc, disk)? {
+    match named_manifest(alloc, disk) {
         Ok(number) => {
-            let absent = Refusal::NoManifest(number);
+            let absent = Refusal::Open(OpenErr::NoManifest(number));
             dump_file(
                 alloc,
                 FileName::Manifest(number),
@@ -50,22 +48,7 @@ pub(crate) fn manifest_dump<D: Disk, S: Sink>(
                 out,
             )
         }
-        Err(why) => refuse(alloc, why, out),
-    }
-}
-
-/// The number of the manifest that `CURRENT` names, or why it names none.
-fn named_manifest<D: Disk>(alloc: Global, disk: &mut D) -> Result<Result<u64, Refusal>, Stop>
-    ensures named { IfOk result (λ named. IfSome (contents_told (D.told disk.old)) (λ d. with_fault opening_refusal named ≡ named_manifest (get d))) }
-    ensures counts { DiskStops (D.faults disk.old) (D.faults disk.new) result }
-    ensures left { IsLeft (D.told disk.old) (D.told disk.new) }
-{
-    let Some(current) = read_file(alloc, disk, "CURRENT")? else {
-        return Ok(Err(Refusal::NoCurrent));
-    };
-    match read_current(current.as_slice()) {
-        Ok(number) => Ok(Ok(number)),
-        Err(why) => Ok(Err(Refusal::BadCurrent(why))),
+        Err(why) => refuse(alloc, refusal_of(why)?, out),
     }
 }
 

@@ -22,15 +22,15 @@ const TWO_RECORDS: [u8; 48] = [
     0x00, 0x00, 0x00, 0x00, 0x00, 0x00, 0x00, 0x01, 0x00, 0x00, 0x00, 0x01, 0x01, 0x62, 0x01, 0x32,
 ];
 
-/// What a run over one file wrote, and its status. The calls with these numbers fail.
-fn outcome(
+/// What a run over these files wrote, and its status. The calls with these numbers fail.
+pub(crate) fn outcome(
     alloc: Global,
-    file: Option<(&str, &[u8])>,
+    files: &[(&str, &[u8])],
     failing: (Option<u64>, Option<u64>),
     words: &[&str],
 ) -> Result<(Status, MemDisk, MemSink), Memory> {
     let mut disk = MemDisk::new(alloc)?;
-    if let Some((name, bytes)) = file {
+    for (name, bytes) in files {
         disk.put_file(name, bytes)?;
     }
     if let Some(call) = failing.0 {
@@ -48,7 +48,21 @@ fn outcome(
     Ok((status, disk, out))
 }
 
-/// Dumps one log, and compares what was written and the status.
+/// Runs a command over files, and compares what was written and the status.
+pub(crate) fn expect<R: Abort + AllocGlobal>(
+    rt: &R,
+    files: &[(&str, &[u8])],
+    words: &[&str],
+    lines: &str,
+    wanted: Status,
+) -> Result<(), Fail> {
+    let (status, _, out) = outcome(rt.alloc(), files, (None, None), words)?;
+    assert_eq!(rt; out.taken(), lines.as_bytes(), "of {words:?}");
+    assert_eq!(rt; status, wanted);
+    Ok(())
+}
+
+/// Dumps one log, and compares likewise.
 fn expect_dump<R: Abort + AllocGlobal>(
     rt: &R,
     file: Option<(&str, &[u8])>,
@@ -57,10 +71,10 @@ fn expect_dump<R: Abort + AllocGlobal>(
     wanted: Status,
 ) -> Result<(), Fail> {
     let words = ["dump_wal", number];
-    let (status, _, out) = outcome(rt.alloc(), file, (None, None), &words)?;
-    assert_eq!(rt; out.taken(), lines.as_bytes(), "of log {number}");
-    assert_eq!(rt; status, wanted);
-    Ok(())
+    match file {
+        Some(file) => expect(rt, &[file], &words, lines, wanted),
+        None => expect(rt, &[], &words, lines, wanted),
+    }
 }
 
 /// Dumps the log of two records while calls fail, and compares likewise.
@@ -70,8 +84,8 @@ fn expect_fault<R: Abort + AllocGlobal>(
     lines: &str,
     wanted: Status,
 ) -> Result<u64, Fail> {
-    let file = Some(("000003.log", TWO_RECORDS.as_slice()));
-    let (status, disk, out) = outcome(rt.alloc(), file, failing, &["dump_wal", "3"])?;
+    let files = [("000003.log", TWO_RECORDS.as_slice())];
+    let (status, disk, out) = outcome(rt.alloc(), &files, failing, &["dump_wal", "3"])?;
     assert_eq!(rt; out.taken(), lines.as_bytes(), "failing at {failing:?}");
     assert_eq!(rt; status, wanted);
     assert_eq!(rt; disk.file("000003.log"), Some(TWO_RECORDS.as_slice()));
@@ -98,7 +112,7 @@ fn words_in_no_grammar_are_answered_with_the_usage_line(rt: HostRuntime) -> Resu
         &["3", "dump_wal"],
     ];
     for words in cases {
-        let (status, disk, out) = outcome(rt.alloc(), None, (None, None), words)?;
+        let (status, disk, out) = outcome(rt.alloc(), &[], (None, None), words)?;
         assert_eq!(rt; status, Status::Usage, "of {words:?}");
         assert_eq!(rt; out.taken(), USAGE.as_bytes());
         assert_eq!(rt; disk.calls(), 0);
@@ -191,9 +205,9 @@ fn each_call_of_the_output_may_fail(rt: HostRuntime) -> Result<(), Fail> {
         } else {
             Status::Done
         };
-        let file = Some(("000003.log", TWO_RECORDS.as_slice()));
+        let files = [("000003.log", TWO_RECORDS.as_slice())];
         let failing = (None, Some(lines as u64 + 1));
-        let (ended, _, out) = outcome(rt.alloc(), file, failing, &["dump_wal", "3"])?;
+        let (ended, _, out) = outcome(rt.alloc(), &files, failing, &["dump_wal", "3"])?;
         assert_eq!(rt;
             out.taken(),
             &WHOLE.as_bytes()[..*end],
@@ -206,12 +220,10 @@ fn each_call_of_the_output_may_fail(rt: HostRuntime) -> Result<(), Fail> {
 
 #[test]
 fn bytes_are_shown_as_asked_for(rt: HostRuntime) -> Result<(), Fail> {
-    let file = Some(("000003.log", &TWO_RECORDS[24..]));
+    let files = [("000003.log", &TWO_RECORDS[24..])];
     let words = ["dump_wal", "3", "--hex"];
-    let (_, _, out) = outcome(rt.alloc(), file, (None, None), &words)?;
     let lines = "record 0 17\n  batch 2 1\n  put 0 0x62@2 => 0x32\nend 24 Clean\n";
-    assert_eq!(rt; out.taken(), lines.as_bytes());
-    Ok(())
+    expect(&rt, &files, &words, lines, Status::Done)
 }
 
 /// A record of one byte is no batch. Its checksum is computed elsewhere.

@@ -135,7 +135,7 @@ impl Line {
     }
 
     /// Puts a user key and its sequence number at the end.
-    fn put_key(&mut self, key: &[u8], sequence: u64, hex: bool) -> Result<(), Memory>
+    pub(crate) fn put_key(&mut self, key: &[u8], sequence: u64, hex: bool) -> Result<(), Memory>
         ensures { OnOk result (self.new ≡ self.old ++ key_at hex key.now sequence) }
     {
         self.put_quoted(key, hex)?;
@@ -171,7 +171,7 @@ impl Line {
     }
 
     /// Puts a fault at the end.
-    fn put_fault(&mut self, fault: BatchFault) -> Result<(), Memory>
+    pub(crate) fn put_fault(&mut self, fault: BatchFault) -> Result<(), Memory>
         ensures { OnOk result (self.new ≡ self.old ++ batch_fault_words fault) }
     {
         match fault {

@@ -97,13 +97,6 @@ impl Line {
         }
     }
 
-    /// Puts the word and a number of 32 bits at the end, with a space between them.
-    fn put_with_id(&mut self, word: &[u8], id: u32) -> Result<(), Memory>
-        ensures { OnOk result (self.new ≡ self.old ++ (word.now ++ then_number id)) }
-    {
-        self.put_with_number(word, u64::from(id))
-    }
-
     /// Puts the word at the end, and these bytes as they are shown.
     fn put_with_quoted(&mut self, word: &[u8], bytes: &[u8], hex: bool) -> Result<(), Memory>
         ensures { OnOk result (self.new ≡ self.old ++ (word.now ++ quoted hex bytes.now)) }
@@ -193,7 +186,7 @@ impl Line {
     }
 
     /// Puts a fault at the end.
-    fn put_edit_fault(&mut self, fault: EditFault) -> Result<(), Memory>
+    pub(crate) fn put_edit_fault(&mut self, fault: EditFault) -> Result<(), Memory>
         ensures { OnOk result (self.new ≡ self.old ++ edit_fault_words fault) }
     {
         match fault {

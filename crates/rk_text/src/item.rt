@@ -89,7 +89,7 @@ impl Line {
 }
 
 /// Why a piece of a log is left out.
-fn why_word(why: GapWhy) -> &'static str
+pub(crate) fn why_word(why: GapWhy) -> &'static str
     ensures { result.now ≡ why_word why }
 {
     match why {

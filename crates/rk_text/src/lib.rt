@@ -3,10 +3,13 @@
 
 mod batch;
 mod edit;
+mod family;
 mod item;
 mod key;
 mod line;
 mod quote;
+mod refusal;
+mod table;
 
 pub use batch::batch_lines;
 pub use edit::edit_lines;

@@ -85,6 +85,36 @@ impl Line {
         self.put_number(number)
     }
 
+    /// Puts the word and a number of 32 bits at the end, with a space between them.
+    pub(crate) fn put_with_id(&mut self, word: &[u8], id: u32) -> Result<(), Memory>
+        ensures { OnOk result (self.new ≡ self.old ++ (word.now ++ then_number id)) }
+    {
+        self.put_with_number(word, u64::from(id))
+    }
+
+    /// Puts the word and a number of 8 bits at the end, with a space between them.
+    pub(crate) fn put_with_byte(&mut self, word: &[u8], number: u8) -> Result<(), Memory>
+        ensures { OnOk result (self.new ≡ self.old ++ (word.now ++ then_number number)) }
+    {
+        self.put_with_number(word, u64::from(number))
+    }
+
+    /// Puts the word, a number and a space at the end.
+    pub(crate) fn put_led(&mut self, word: &[u8], number: u64) -> Result<(), Memory>
+        ensures { OnOk result (self.new ≡ self.old ++ (word.now ++ then_number number ++ codes " ")) }
+    {
+        self.put_with_number(word, number)?;
+        self.put(b" ")
+    }
+
+    /// Puts the word and two numbers at the end, with spaces between them.
+    pub(crate) fn put_numbers(&mut self, word: &[u8], one: u64, other: u64) -> Result<(), Memory>
+        ensures { OnOk result (self.new ≡ self.old ++ (word.now ++ then_number one ++ then_number other)) }
+    {
+        self.put_with_number(word, one)?;
+        self.put_number(other)
+    }
+
     /// Ends the line.
     pub(crate) fn end(&mut self) -> Result<(), Memory>
         ensures { OnOk result (self.new ≡ line self.old) }

@@ -1,7 +1,11 @@
 // The texts are those of the description of the commands, or are written down by its rules.
 use super::*;
 use rk_batch::{BatchFault, BatchRecord, BatchView};
-use rk_bytes::model::Kind;
+use rk_bytes::Bytes;
+use rk_bytes::model::{
+    ApplyFault, EditWhy, Kind, LogWhat, ManifestFault, ManifestWhy, OpenErr, Property, RangeDel,
+    Record, TableWhat, TableWhy, WalErr, WalWhy,
+};
 use rk_edit::{EditFault, Field};
 use rk_log::{EndKind, GapWhy, Item, Piece};
 use std::test::Fail;
@@ -129,5 +133,105 @@ fn one_buffer_serves_for_all_lines(rt: HostRuntime) -> Result<(), Fail> {
     );
     line.set_bad_edit(EditFault::BadField { tag: 6, place: 2 })?;
     assert_eq!(rt; line.as_slice(), b"  bad BadField 6 2\n".as_slice());
+    Ok(())
+}
+
+#[test]
+fn refusals_name_their_causes(rt: HostRuntime) -> Result<(), Fail> {
+    let mut line = Line::new(rt.alloc());
+    let gap = ManifestWhy::Gap(GapWhy::Checksum);
+    let absent = EditWhy::Apply(ApplyFault::DeleteAbsent(9));
+    for (why, wanted) in [
+        (
+            OpenErr::Manifest(ManifestFault::Damaged { place: 7, why: gap }),
+            "refused: ManifestDamaged 7 Checksum\n",
+        ),
+        (
+            OpenErr::Manifest(ManifestFault::BadEdit {
+                unit: 2,
+                why: absent,
+            }),
+            "refused: BadEdit 2 DeleteAbsent 9\n",
+        ),
+        (
+            OpenErr::SizeMismatch {
+                n: 4,
+                stated: 115,
+                found: 114,
+            },
+            "refused: SizeMismatch 4 115 114\n",
+        ),
+        (
+            OpenErr::DamagedTable {
+                n: 4,
+                why: TableWhy::Checksum,
+                place: 0,
+            },
+            "refused: DamagedTable 4 Checksum 0\n",
+        ),
+        (
+            OpenErr::UnsupportedTable {
+                n: 4,
+                what: TableWhat::Compressed(1),
+            },
+            "refused: UnsupportedTable 4 Compressed 1\n",
+        ),
+        (
+            OpenErr::Wal(WalErr::Corrupt {
+                log: 5,
+                place: 37_969,
+                why: WalWhy::Torn,
+            }),
+            "refused: Corrupt 5 37969 Torn\n",
+        ),
+        (
+            OpenErr::Wal(WalErr::UnsupportedLog {
+                log: 3,
+                what: LogWhat::Tag(9),
+            }),
+            "refused: UnsupportedLog 3 tag 9\n",
+        ),
+    ] {
+        line.set_not_opened(why)?;
+        assert_eq!(rt; line.as_slice(), wanted.as_bytes());
+    }
+    Ok(())
+}
+
+#[test]
+fn what_a_table_holds_is_shown(rt: HostRuntime) -> Result<(), Fail> {
+    let alloc = rt.alloc();
+    let mut line = Line::new(alloc);
+    line.set_entry(
+        &Record {
+            family: 0,
+            key: Bytes::copy_of(alloc, b"a")?,
+            sequence: 1,
+            kind: Kind::Value,
+            value: Bytes::copy_of(alloc, b"x")?,
+        },
+        false,
+    )?;
+    assert_eq!(rt; line.as_slice(), b"\"a\"@1:1 => \"x\"\n".as_slice());
+    line.set_range(
+        &RangeDel {
+            start: Bytes::copy_of(alloc, b"b")?,
+            end: Bytes::copy_of(alloc, b"d")?,
+            sequence: 10,
+        },
+        true,
+    )?;
+    assert_eq!(rt; line.as_slice(), b"range 0x62@10 .. 0x64\n".as_slice());
+    line.set_property(
+        &Property {
+            name: Bytes::copy_of(alloc, b"rocksdb.num.entries")?,
+            value: Bytes::copy_of(alloc, b"\x01")?,
+        },
+        false,
+    )?;
+    assert_eq!(rt;
+        line.as_slice(),
+        b"\"rocksdb.num.entries\" = \"\\x01\"\n".as_slice()
+    );
     Ok(())
 }
