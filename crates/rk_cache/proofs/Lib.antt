@@ -1,0 +1,6 @@
+mod PieceLemmas
+mod TrailerLemmas
+mod ReadLemmas
+mod KeptLemmas
+mod KeyLemmas
+mod StatusLemmas

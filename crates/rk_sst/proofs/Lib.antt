@@ -1,0 +1,3 @@
+mod LeftLemmas
+mod TakenLemmas
+mod OpenLemmas

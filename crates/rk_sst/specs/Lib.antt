@@ -1,0 +1,4 @@
+pub mod Errors
+pub mod Seen
+pub mod Taken
+pub mod Opened
