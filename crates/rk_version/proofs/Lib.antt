@@ -1,0 +1,11 @@
+pub mod Apart
+pub mod Each
+pub mod FieldLemmas
+pub mod FileOrder
+pub mod PlaceLemmas
+pub mod Rising
+pub mod StatedLemmas
+pub mod StepLemmas
+pub mod Turning
+pub mod UnitLemmas
+pub mod VersionOrder

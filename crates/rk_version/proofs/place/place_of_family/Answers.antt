@@ -1,0 +1,9 @@
+use Rattle.std.proofs.Common.{rules}
+use Rattle.std.proofs.lemmas.List.Sorted.{answers_always}
+use Rattle.rk_version.proofs.PlaceLemmas.{place_found}
+use Rattle.rk_version.proofs.place.place_of_family.Goals as goal
+
+pub returns : goal.returns
+returns c =
+    let facts = c.binary_search_by_key.ensures in
+    place_found (λ live. live.id) c.args.id c.args.families.now _ c.requires facts.bound (facts.position (λ live. live.id) (answers_always _ _ _ (λ f a r g called. search rules)))
