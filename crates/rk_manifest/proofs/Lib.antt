@@ -1,0 +1,10 @@
+pub mod BlockLemmas
+pub mod EndLemmas
+pub mod FoldLemmas
+pub mod FrontLemmas
+pub mod GroupLemmas
+pub mod LastLemmas
+pub mod PartingLemmas
+pub mod RoomLemmas
+pub mod TakeLemmas
+pub mod UnitLemmas

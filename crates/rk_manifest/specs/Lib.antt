@@ -1,0 +1,10 @@
+pub mod Blocks
+pub mod Folds
+pub mod Fronts
+pub mod Groups
+pub mod Last
+pub mod Outcomes
+pub mod Partings
+pub mod Records
+pub mod Room
+pub mod Units
