@@ -1,0 +1,12 @@
+mod SlotOrder
+mod RunLemmas
+mod MapLemmas
+mod FirstLemmas
+mod RunsLemmas
+mod TableLemmas
+mod ValuesLemmas
+mod ViewLemmas
+mod DecideLemmas
+mod WalkLemmas
+mod MergeLemmas
+mod FamilyLemmas

@@ -1,0 +1,6 @@
+pub mod Codes
+pub mod Kept
+pub mod Maps
+pub mod Places
+pub mod Shown
+pub mod Merged
