@@ -5,7 +5,7 @@ use Rattle.std.specs.FinMap.{get}
 use Rattle.std.proofs.lemmas.List.{length-drop, length-take, take-append-drop, drop-drop, drop_all}
 use Rattle.std.proofs.Math.Seq.{take-append_seam}
 use Rattle.rk_bytes.specs.Model.DiskImages.{Told, contents, contents_told, part_of_file}
-use Rattle.rk_disk.specs.Parts.{IsPart}
+use Rattle.rk_disk.specs.Parts.{IsPart, OfFile}
 
 -- what the file has where it is asked for so much
 part_asked : (at size room wanted : ℕ) (is_last : Bool) (bytes : List ℕ) → at ≤ size → wanted ≡ min room (size - at) → length bytes ≡ size → (is_last ≡ true → size - at ≤ room)
@@ -20,7 +20,7 @@ part_asked at size room wanted is_last bytes within asked len last =
 pub part_read : (told : Option Told) (name : List ℕ) (at size room wanted n : ℕ) (old new after : List ℕ) (is_last : Bool) → at ≤ size → wanted ≡ min room (size - at) → length old ≡ wanted
     → IfSome (contents_told told) (λ files. let part = part_of_file at (length old) (unwrap_or (get files name) []) in (n ≡ length part) × (new ≡ part ++ drop n old))
     → (is_last ≡ true → size - at ≤ room)
-    → IfSome (contents_told told) (λ files. (bytes : List ℕ) → get files name ≡ Some bytes → length bytes ≡ size → IsPart at bytes (take n (new ++ after)) is_last)
+    → OfFile told name size (λ bytes. IsPart at bytes (take n (new ++ after)) is_last)
 part_read None name at size room wanted n old new after is_last within asked len read last = tt
 part_read (Some told) name at size room wanted n old new after is_last within asked len read last = λ bytes is whole.
     let found = part_of_file at (length old) (unwrap_or (get (contents told.now) name) []) in

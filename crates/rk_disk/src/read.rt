@@ -1,8 +1,8 @@
-ghost use Rattle.std.specs.Prelude.{◌≡◌, ◌+◌, ◌^◌, ◌<◌, ◌≤◌, ◌++◌, ℕ, List, [], false, length, take, drop, IfOk, IfSome, Some, unwrap_or};
+ghost use Rattle.std.specs.Prelude.{◌≡◌, ◌+◌, ◌^◌, ◌<◌, ◌≤◌, ◌++◌, [], false, length, take, drop, IfOk, IfSome, unwrap_or};
 ghost use Rattle.std.specs.FinMap as map;
 ghost use Rattle.rk_bytes.specs.Model.DiskImages.{IsLeft, contents_told, part_of_file, Counts};
 ghost use Rattle.rk_disk.specs.Faults.{disk_failed};
-ghost use Rattle.rk_disk.specs.Parts.{IsPart};
+ghost use Rattle.rk_disk.specs.Parts.{IsPart, OfFile};
 
 use crate::{Disk, DiskErr};
 use rk_bytes::Bytes;
@@ -61,8 +61,7 @@ pub fn read_part<D: Disk>(
     ensures room { length buf.new ≡ length buf.old }
     ensures len { IfOk result (λ read. (read.0 ≤ length buf.old) × (at + read.0 ≤ size)) }
     ensures full { IfOk result (λ read. read.1 ≡ false → (read.0 ≡ length buf.old) × (at + length buf.old < size)) }
-    ensures part { IfOk result (λ read. IfSome (contents_told (D.told disk.old)) (λ files. (bytes : List ℕ) → map.get files name.now ≡ Some bytes → length bytes ≡ size
-        → IsPart at bytes (take read.0 buf.new) read.1)) }
+    ensures part { IfOk result (λ read. OfFile (D.told disk.old) name.now size (λ bytes. IsPart at bytes (take read.0 buf.new) read.1)) }
     ensures left { IsLeft (D.told disk.old) (D.told disk.new) }
     ensures faults { Counts (disk_failed result) (D.faults disk.old) (D.faults disk.new) }
 {

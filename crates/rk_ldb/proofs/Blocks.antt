@@ -1,10 +1,5 @@
 -- How far a dump has come, block by block.
-use Rattle.std.proofs.Common.{◌≡◌, ℕ, ◌+◌, ◌-◌, ◌≤◌, min, Bool, true, false, List, [], ◌++◌, length, take, drop, Option, Some, None, Result, Ok, sym, ap, ◌∙◌, subst, arith, append_assoc}
-use Rattle.std.specs.Prelude.{IfSome, unwrap_or}
-use Rattle.std.specs.FinMap.{get}
-use Rattle.std.proofs.lemmas.List.{length-drop, length-take, take-append-drop, drop-drop, drop_all}
-use Rattle.std.proofs.Math.Seq.{take-append_seam}
-use Rattle.rk_bytes.specs.Model.DiskImages.{Told, contents, contents_told, part_of_file}
+use Rattle.std.proofs.Common.{◌≡◌, ℕ, ◌+◌, Bool, false, List, length, drop, Option, Result, Ok, sym, ap, ◌∙◌, subst}
 use Rattle.rk_log.specs.declared.feed.LogFeed.{LogFeed}
 use Rattle.rk_log.specs.Left.{left, bytes_before}
 use Rattle.rk_ldb.specs.declared.items.Form.{Form}
@@ -12,23 +7,6 @@ use Rattle.rk_ldb.specs.declared.stop.Stop.{Stop}
 use Rattle.rk_disk.specs.Parts.{IsPart}
 use Rattle.rk_ldb.specs.Wrote.{Wrote, dump_lines, BlockWritten, WritesBlock}
 use Rattle.rk_ldb.proofs.Taken.{Wrote-nothing}
-
--- what holds of the bytes of the file of this name, where the disk tells its files and this is its length
-abbrev pub OfFile : Option Told → List ℕ → ℕ → (List ℕ → Type 0) → Type 0
-OfFile told name size P = IfSome (contents_told told) (λ d. (bytes : List ℕ) → get d name ≡ Some bytes → length bytes ≡ size → P bytes)
-
-pub OfFile-all : (told : Option Told) (name : List ℕ) (size : ℕ) (P : List ℕ → Type 0) → ((bytes : List ℕ) → P bytes) → OfFile told name size P
-OfFile-all None name size P all = tt
-OfFile-all (Some t) name size P all = λ bytes is len. all bytes
-
-pub OfFile-with : (told : Option Told) (name : List ℕ) (size : ℕ) (P Q : List ℕ → Type 0) → ((bytes : List ℕ) → P bytes → Q bytes) → OfFile told name size P → OfFile told name size Q
-OfFile-with None name size P Q f h = tt
-OfFile-with (Some t) name size P Q f h = λ bytes is len. f bytes (h bytes is len)
-
-pub OfFile-both : (told : Option Told) (name : List ℕ) (size : ℕ) (P Q R : List ℕ → Type 0) → ((bytes : List ℕ) → P bytes → Q bytes → R bytes)
-    → OfFile told name size P → OfFile told name size Q → OfFile told name size R
-OfFile-both None name size P Q R f h k = tt
-OfFile-both (Some t) name size P Q R f h k = λ bytes is len. f bytes (h bytes is len) (k bytes is len)
 
 -- The lines of the blocks before this one are written.
 abbrev pub InLog : Option (List ℕ) → Option (List ℕ) → Form → LogFeed → LogFeed → List ℕ → Type 0

@@ -3,16 +3,17 @@ use Rattle.std.proofs.Common.{◌≡◌, ℕ, Bool, List, [], ◌∷◌, length,
 use Rattle.std.specs.Prelude.{IfSome, option_map}
 use Rattle.std.specs.FinMap.{get}
 use Rattle.rk_bytes.specs.Model.DiskImages.{Directory, Told, contents, contents_told}
-use Rattle.rk_bytes.specs.Model.FileNames.{log_name}
+use Rattle.rk_bytes.specs.Model.FileNames.{log_name, table_name}
 use Rattle.rk_bytes.specs.Model.LogItems.{log_items}
 use Rattle.rk_bytes.specs.declared.model.status.Status.TheVariants.{Usage}
-use Rattle.rk_bytes.specs.Model.Grammar.{Command, manifest_dump, dump_wal}
+use Rattle.rk_bytes.specs.declared.model.command.SstPart.{SstPart}
+use Rattle.rk_bytes.specs.Model.Grammar.{Command, families, manifest_dump, dump_wal, sst}
 use Rattle.rk_bytes.specs.Model.Lines.{usage_line}
-use Rattle.rk_bytes.specs.Model.Output.{Output, dump_wal_output, manifest_dump_output, command_output, written, refused}
+use Rattle.rk_bytes.specs.Model.Output.{Output, dump_wal_output, manifest_dump_output, families_output, sst_output, command_output, written, refused}
 use Rattle.rk_ldb.specs.declared.items.Form.{Form}
 use Rattle.rk_ldb.specs.Built.{built_command, output_of, output_so_far}
 use Rattle.rk_ldb.specs.Wrote.{dump_lines, file_output}
-use Rattle.rk_ldb.proofs.Blocks.{OfFile}
+use Rattle.rk_disk.specs.Parts.{OfFile}
 
 -- what is written of a file that is there, where something is of its bytes
 pub found_file : (told : Option Told) (why : List ℕ) (form : Form) (number size : ℕ) (name printed : List ℕ) (P : Output → Type 0) → name ≡ printed
@@ -49,6 +50,18 @@ pub output_of_manifest : (o : Option Directory) (command : Command) (hex : Bool)
 unfolding command_output
 output_of_manifest None command hex P is h = tt
 output_of_manifest (Some d) command hex P is h = subst (λ command. P (output_of command d)) (sym is) h
+
+pub output_of_families : (o : Option Directory) (command : Command) (P : Output → Type 0) → command ≡ families
+    → IfSome o (λ d. P (families_output (get d))) → IfSome o (λ d. P (output_of command d))
+unfolding command_output
+output_of_families None command P is h = tt
+output_of_families (Some d) command P is h = subst (λ command. P (output_of command d)) (sym is) h
+
+pub output_of_table : (o : Option Directory) (command : Command) (n : ℕ) (part : SstPart) (hex : Bool) (P : Output → Type 0) → command ≡ sst n part hex
+    → IfSome o (λ d. P (sst_output n part hex (get d (table_name n)))) → IfSome o (λ d. P (output_of command d))
+unfolding command_output
+output_of_table None command n part hex P is h = tt
+output_of_table (Some d) command n part hex P is h = subst (λ command. P (output_of command d)) (sym is) h
 
 pub lines_of_command : (o : Option Directory) (words : List (List ℕ)) (command : Command) (P : Output → Type 0) → ◌≡◌ {A = Option Command} (Some command) (built_command words)
     → IfSome o (λ d. P (output_of command d)) → IfSome o (λ d. P (output_so_far words d))

@@ -9,4 +9,7 @@ mod ItemLines
 mod ManifestDumps
 mod Openings
 mod NumberWords
+mod Scans
+mod ShownLemmas
+mod Tables
 mod Taken

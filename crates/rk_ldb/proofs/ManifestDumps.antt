@@ -2,13 +2,11 @@
 use Rattle.std.proofs.Common.{◌≡◌, ℕ, Bool, List, Option, Some, None, Result, Ok, Err, refl, sym, ap, ◌∙◌, subst}
 use Rattle.std.specs.Prelude.{IfSome, ok_or}
 use Rattle.std.specs.FinMap.{get}
-use Rattle.rk_bytes.specs.declared.model.name.CurrentFault.{CurrentFault}
 use Rattle.rk_bytes.specs.declared.model.open.OpenErr.{OpenErr}
 use Rattle.rk_bytes.specs.declared.model.open.OpenErr.TheVariants as open_err
 use Rattle.rk_bytes.specs.Model.Numbers.{◌>>=◌}
-use Rattle.rk_bytes.specs.Model.BlockEntries.{with_fault}
 use Rattle.rk_bytes.specs.Model.DiskImages.{Directory}
-use Rattle.rk_bytes.specs.Model.FileNames.{current_name, current_manifest, manifest_name}
+use Rattle.rk_bytes.specs.Model.FileNames.{manifest_name}
 use Rattle.rk_bytes.specs.Model.Lines.{open_err_words}
 use Rattle.rk_bytes.specs.Model.LogItems.{log_items}
 use Rattle.rk_bytes.specs.Model.Opening.{Files, named_manifest}

@@ -1,13 +1,17 @@
 -- The commands that the program has so far. The words of any other are answered like those of none.
-use Rattle.std.specs.Prelude.{ℕ, List, Option, Some, None, option_map}
+use Rattle.std.specs.Prelude.{ℕ, Bool, false, List, [], Option, Some, None, option_map}
+use Rattle.rk_bytes.specs.declared.model.command.SstPart.{SstPart}
+use Rattle.rk_bytes.specs.declared.model.command.SstPart.TheVariants.{Check}
 use Rattle.rk_bytes.specs.Model.DiskImages.{Directory}
-use Rattle.rk_bytes.specs.Model.Grammar.{Command, manifest_dump, dump_wal, hex_of, command_of}
+use Rattle.rk_bytes.specs.Model.Grammar.{Command, families, manifest_dump, dump_wal, sst, hex_of, command_of}
 use Rattle.rk_bytes.specs.Model.Output.{Output, command_output}
 
 -- the command, where the program has it
 abbrev pub built : Option Command → Option Command
+built (Some families) = Some families
 built (Some (manifest_dump hex)) = Some (manifest_dump hex)
 built (Some (dump_wal n hex)) = Some (dump_wal n hex)
+built (Some (sst n part hex)) = Some (sst n part hex)
 built _ = None
 
 -- the command that the words spell, where the program has it
@@ -25,3 +29,9 @@ output_so_far words d = command_output (built_command words) d
 -- the command of the words after `manifest_dump`
 abbrev pub manifest_dump_of : List (List ℕ) → Option Command
 manifest_dump_of words = option_map manifest_dump (hex_of words)
+
+-- whether the last words ask for hexadecimal, where this is asked of a table; a check takes none
+abbrev pub form_of : SstPart → List (List ℕ) → Option Bool
+form_of Check [] = Some false
+form_of Check _ = None
+form_of part words = hex_of words

@@ -1,5 +1,5 @@
 -- What a command has written so far of its lines, and what a part of it writes.
-use Rattle.std.specs.Prelude.{◌≡◌, ℕ, ◌+◌, Bool, true, false, List, ◌++◌, length, drop, flat_map, Option, Some, None, Result, Ok, Err, codes}
+use Rattle.std.specs.Prelude.{◌≡◌, ℕ, Bool, true, false, List, ◌++◌, flat_map, Option, Some, None, Result, Ok, Err, codes}
 use Rattle.rk_bytes.specs.Model.LogItems.{Item, log_items}
 use Rattle.rk_bytes.specs.Model.VersionEdit.{Field}
 use Rattle.rk_bytes.specs.Model.Lines.{batch_lines, edit_lines, inner_line, field_words}

@@ -1,18 +1,32 @@
 ghost use Rattle.std.specs.Prelude.{◌≡◌, ◌⊎◌, ◌↔◌, ◌<◌, IsTrue, length, slice_index};
 ghost use Rattle.std.specs.Option.{option_map};
-ghost use Rattle.rk_bytes.specs.Model.Grammar.{hex_of, number_of, dump_wal_of};
-ghost use Rattle.rk_ldb.specs.Built.{built_command, manifest_dump_of};
+ghost use Rattle.rk_bytes.specs.Model.Grammar.{hex_of, number_of, dump_wal_of, sst_of, sst_part_of, alone, families};
+ghost use Rattle.rk_ldb.specs.Built.{built_command, manifest_dump_of, form_of};
 ghost use Rattle.rk_ldb.specs.Commands.{told};
 
 use rk_bytes::Text;
+use rk_bytes::model::SstPart;
 
 /// A command that the program has. Bytes are shown in hexadecimal, or between quotation marks.
 #[derive(Clone, Copy, Debug, PartialEq, Eq)]
 pub(crate) enum Command {
+    /// The families of the last version.
+    Families,
     /// The records of the manifest that `CURRENT` names, and what stands in them.
-    ManifestDump { hex: bool },
+    ManifestDump {
+        hex: bool,
+    },
     /// The records of the log with this number, and what stands in them.
-    DumpWal { number: u64, hex: bool },
+    DumpWal {
+        number: u64,
+        hex: bool,
+    },
+    /// What is asked of the table with this number.
+    Sst {
+        number: u64,
+        part: SstPart,
+        hex: bool,
+    },
 }
 
 /// The command that the words spell, or `None` where they are in the grammar of no command that the
@@ -22,8 +36,20 @@ pub(crate) fn read_command(words: &[Text]) -> Option<Command>
 {
     let (verb, arguments) = words.split_first()?;
     match verb.as_str() {
+        "families" => read_families(arguments),
         "manifest_dump" => read_manifest_dump(arguments),
         "dump_wal" => read_dump_wal(arguments),
+        "sst" => read_sst(arguments),
+        _ => None,
+    }
+}
+
+/// The command of the words after `families`, of which there are none.
+fn read_families(arguments: &[Text]) -> Option<Command>
+    ensures { option_map told result ≡ alone families arguments.now }
+{
+    match arguments {
+        [] => Some(Command::Families),
         _ => None,
     }
 }
@@ -44,6 +70,43 @@ fn read_dump_wal(arguments: &[Text]) -> Option<Command>
     let number = read_number(number.as_str())?;
     let hex = read_hex(options)?;
     Some(Command::DumpWal { number, hex })
+}
+
+/// The command of the words after `sst`.
+fn read_sst(arguments: &[Text]) -> Option<Command>
+    ensures { option_map told result ≡ sst_of arguments.now }
+{
+    let (number, rest) = arguments.split_first()?;
+    let (part, options) = rest.split_first()?;
+    let number = read_number(number.as_str())?;
+    let part = read_part(part.as_str())?;
+    let hex = read_form(part, options)?;
+    Some(Command::Sst { number, part, hex })
+}
+
+/// What the word asks of a table.
+fn read_part(word: &str) -> Option<SstPart>
+    ensures { result ≡ sst_part_of word.now }
+{
+    match word {
+        "check" => Some(SstPart::Check),
+        "scan" => Some(SstPart::Scan),
+        "properties" => Some(SstPart::Properties),
+        _ => None,
+    }
+}
+
+/// Whether the last words ask for hexadecimal, where this is asked of a table. A check takes none.
+fn read_form(part: SstPart, words: &[Text]) -> Option<bool>
+    ensures { result ≡ form_of part words.now }
+{
+    match part {
+        SstPart::Check => match words {
+            [] => Some(false),
+            _ => None,
+        },
+        SstPart::Scan | SstPart::Properties => read_hex(words),
+    }
 }
 
 /// Whether the last words, which may be none, ask for hexadecimal.

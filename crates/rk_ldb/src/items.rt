@@ -1,8 +1,8 @@
 //! The lines of a log's file, which is read block by block.
 ghost use Rattle.std.specs.Prelude.{◌≡◌, ◌+◌, ◌<◌, ◌≤◌, ◌^◌, ℕ, List, Some, IfOk, IfSome, false, true, length, take, min};
-ghost use Rattle.std.specs.FinMap.{get};
-ghost use Rattle.rk_bytes.specs.Model.DiskImages.{IsLeft, contents_told};
+ghost use Rattle.rk_bytes.specs.Model.DiskImages.{IsLeft};
 ghost use Rattle.rk_bytes.specs.Model.LogItems.{log_items};
+ghost use Rattle.rk_disk.specs.Parts.{OfFile};
 ghost use Rattle.rk_log.specs.Items.{item_of, is_end};
 ghost use Rattle.rk_log.specs.Left.{left, bytes_before};
 ghost use Rattle.rk_ldb.specs.Stops.{TookUpTo, DiskCounts, SinkCounts, OutputStops};
@@ -57,8 +57,7 @@ pub(crate) fn write_file<D: Disk, S: Sink>(
     disk: &mut D,
     out: &mut S,
 ) -> Result<(), Stop>
-    ensures lines { IfSome (contents_told (D.told disk.old)) (λ d. (bytes : List ℕ) → get d name.now ≡ Some bytes → length bytes ≡ size
-        → TookUpTo (S.taken out.old) (S.taken out.new) (dump_lines form (log_items number bytes)) result) }
+    ensures lines { OfFile (D.told disk.old) name.now size (λ bytes. TookUpTo (S.taken out.old) (S.taken out.new) (dump_lines form (log_items number bytes)) result) }
     ensures disk_count { DiskCounts (D.faults disk.old) (D.faults disk.new) result }
     ensures output_count { SinkCounts (S.faults out.old) (S.faults out.new) result }
     ensures left { IsLeft (D.told disk.old) (D.told disk.new) }
@@ -91,8 +90,7 @@ fn write_blocks<D: Disk, S: Sink>(
 ) -> Result<(), Stop>
     requires room { length buffer.old ≡ BLOCK_LEN }
     requires begin { bytes_before feed.old ≡ 0 }
-    ensures lines { IfSome (contents_told (D.told disk.old)) (λ d. (bytes : List ℕ) → get d name.now ≡ Some bytes → length bytes ≡ size
-        → TookUpTo (S.taken out.old) (S.taken out.new) (dump_lines form (left feed.old bytes).items) result) }
+    ensures lines { OfFile (D.told disk.old) name.now size (λ bytes. TookUpTo (S.taken out.old) (S.taken out.new) (dump_lines form (left feed.old bytes).items) result) }
     ensures disk_count { DiskCounts (D.faults disk.old) (D.faults disk.new) result }
     ensures output_count { SinkCounts (S.faults out.old) (S.faults out.new) result }
     ensures left { IsLeft (D.told disk.old) (D.told disk.new) }

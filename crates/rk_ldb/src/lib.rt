@@ -5,12 +5,15 @@ mod batch;
 mod command;
 mod dump;
 mod edit;
+mod families;
 mod items;
 mod lines;
 mod log_dump;
 mod manifest_dump;
 mod program;
 mod refusal;
+mod shown;
+mod sst;
 mod stop;
 
 pub use program::{end_after_want_of_memory, run};

@@ -8,9 +8,11 @@ ghost use Rattle.rk_ldb.specs.Commands.{told};
 ghost use Rattle.rk_ldb.specs.Stops.{TookUpTo, DiskCounts, SinkCounts, OutputStops};
 
 use crate::command::{Command, read_command};
+use crate::families::families;
 use crate::lines::{DISK_FAULT_LINE, MEMORY_FAULT_LINE, USAGE_LINE, write_line};
 use crate::log_dump::dump_wal;
 use crate::manifest_dump::manifest_dump;
+use crate::sst::sst;
 use crate::stop::Stop;
 use rk_bytes::Text;
 use rk_bytes::model::Status;
@@ -92,8 +94,10 @@ fn write_answer<D: Disk, S: Sink>(
     ensures left { IsLeft (D.told disk.old) (D.told disk.new) }
 {
     match command {
+        Command::Families => families(alloc, disk, out),
         Command::ManifestDump { hex } => manifest_dump(alloc, hex, disk, out),
         Command::DumpWal { number, hex } => dump_wal(alloc, number, hex, disk, out),
+        Command::Sst { number, part, hex } => sst(alloc, number, part, hex, disk, out),
     }
 }
 

@@ -18,6 +18,8 @@ use std::alloc::Global;
 pub(crate) enum Refusal {
     /// The log with this number isn't there.
     NoLog(u64),
+    /// The table with this number isn't there.
+    NoTable(u64),
     /// The database isn't opened.
     Open(OpenErr),
 }
@@ -51,6 +53,7 @@ fn set_refusal(line: &mut Line, why: Refusal) -> Result<(), Memory>
 {
     match why {
         Refusal::NoLog(number) => line.set_no_log(number),
+        Refusal::NoTable(number) => line.set_no_table(number),
         Refusal::Open(why) => line.set_not_opened(why),
     }
 }

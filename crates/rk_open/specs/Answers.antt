@@ -1,5 +1,5 @@
 -- What the answers of opening say.
-use Rattle.std.specs.Prelude.{◌≡◌, Bool, true, false, Result, Ok, Err}
+use Rattle.std.specs.Prelude.{◌≡◌, Bool, true, false, Result, Err}
 use Rattle.rk_bytes.specs.declared.model.open.OpenErr.{OpenErr}
 use Rattle.rk_bytes.specs.declared.model.open.OpenErr.TheVariants.{DiskFault, Memory}
 use Rattle.rk_disk.specs.declared.disk.DiskErr.{DiskErr}

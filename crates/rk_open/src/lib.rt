@@ -3,9 +3,11 @@
 
 mod current;
 mod fault;
+mod version;
 
 pub use current::named_manifest;
 pub use rk_bytes::model::OpenErr;
+pub use version::{current_version, last_version};
 
 #[cfg(test)]
 mod tests;

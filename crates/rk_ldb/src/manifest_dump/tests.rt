@@ -21,15 +21,17 @@ fn a_manifest_is_dumped(rt: HostRuntime) -> Result<(), Fail> {
     let bad = b"\x21\x36\xe2\xd8\x01\0\x01\x66".as_slice();
     let files = [NAMED, ("MANIFEST-000002", bad)];
     let lines = "edit 0 1\n  bad UnsupportedTag 102 0\nend 8 Clean\n";
-    expect(&rt, &files, &["manifest_dump", "--hex"], lines, Status::Done)
+    expect(
+        &rt,
+        &files,
+        &["manifest_dump", "--hex"],
+        lines,
+        Status::Done,
+    )
 }
 
 /// Runs the command over a directory with this `CURRENT` alone, and compares the line that refuses.
-fn expect_refused<R: Abort + AllocGlobal>(
-    rt: &R,
-    current: &[u8],
-    line: &str,
-) -> Result<(), Fail> {
+fn expect_refused<R: Abort + AllocGlobal>(rt: &R, current: &[u8], line: &str) -> Result<(), Fail> {
     let files = [("CURRENT", current)];
     expect(rt, &files, &["manifest_dump"], line, Status::Refused)
 }
@@ -39,7 +41,11 @@ fn no_manifest_is_refused(rt: HostRuntime) -> Result<(), Fail> {
     let none = "refused: NoCurrent\n";
     expect(&rt, &[], &["manifest_dump"], none, Status::Refused)?;
     expect_refused(&rt, b"MANIFEST-000002", "refused: BadCurrent NoNewline\n")?;
-    expect_refused(&rt, b"MANIFEST-000002\n\n", "refused: BadCurrent Trailing\n")?;
+    expect_refused(
+        &rt,
+        b"MANIFEST-000002\n\n",
+        "refused: BadCurrent Trailing\n",
+    )?;
     expect_refused(&rt, b"000002.log\n", "refused: BadCurrent NotManifest\n")?;
     expect_refused(&rt, b"MANIFEST-000009\n", "refused: NoManifest 9\n")
 }

@@ -2,7 +2,7 @@ use Rattle.std.proofs.Common.{◌∷◌, sym, ap, ◌∙◌}
 use Rattle.std.specs.Prelude.{option_map}
 use Rattle.std.proofs.lemmas.List.{nil_from_length}
 use Rattle.rk_ldb.specs.Commands.{told}
-use Rattle.rk_ldb.proofs.CommandWords.{no_words, other_words, manifest_words, log_words}
+use Rattle.rk_ldb.proofs.CommandWords.{no_words, other_words, families_words, manifest_words, log_words, sst_words}
 use Rattle.rk_ldb.proofs.command.read_command.Goals as goal
 
 pub returns-in_err-verb : goal.returns-in_err-verb
@@ -20,6 +20,20 @@ returns-in-dump_wal c =
     c.read_dump_wal.ensures
     ∙ sym (log_words c.args.words.now arguments (c.in_ok-verb.ensures.cases.0 ∙ ap (λ verb. verb ∷ arguments) (sym c.as_str.ensures ∙ c.in-dump_wal.is)))
 
+pub returns-in-families : goal.returns-in-families
+returns-in-families c =
+    let arguments = c.in_ok-verb.arguments.now in
+    c.read_families.ensures
+    ∙ sym (families_words c.args.words.now arguments (c.in_ok-verb.ensures.cases.0 ∙ ap (λ verb. verb ∷ arguments) (sym c.as_str.ensures ∙ c.in-families.is)))
+
+pub returns-in-sst : goal.returns-in-sst
+returns-in-sst c =
+    let arguments = c.in_ok-verb.arguments.now in
+    c.read_sst.ensures
+    ∙ sym (sst_words c.args.words.now arguments (c.in_ok-verb.ensures.cases.0 ∙ ap (λ verb. verb ∷ arguments) (sym c.as_str.ensures ∙ c.in-sst.is)))
+
 pub returns-in_default : goal.returns-in_default
 returns-in_default c =
-    sym (other_words c.args.words.now c.in_ok-verb.arguments.now c.in_ok-verb.verb.now c.in_ok-verb.ensures.cases.0 (λ is. c.in_default.not-manifest_dump (c.as_str.ensures ∙ is)) (λ is. c.in_default.not-dump_wal (c.as_str.ensures ∙ is)))
+    sym (other_words c.args.words.now c.in_ok-verb.arguments.now c.in_ok-verb.verb.now c.in_ok-verb.ensures.cases.0
+    (λ is. c.in_default.not-families (c.as_str.ensures ∙ is)) (λ is. c.in_default.not-manifest_dump (c.as_str.ensures ∙ is))
+    (λ is. c.in_default.not-dump_wal (c.as_str.ensures ∙ is)) (λ is. c.in_default.not-sst (c.as_str.ensures ∙ is)))

@@ -10,7 +10,8 @@ use Rattle.rk_bytes.specs.Model.Output.{Output}
 use Rattle.rk_ldb.specs.Refusals.{words_of}
 use Rattle.rk_ldb.specs.Stops.{TookUpTo}
 use Rattle.rk_ldb.specs.Wrote.{dump_lines}
-use Rattle.rk_ldb.proofs.Blocks.{OfFile, OfFile-with}
+use Rattle.rk_disk.specs.Parts.{OfFile}
+use Rattle.rk_disk.proofs.Callers.{OfFile-with}
 use Rattle.rk_ldb.proofs.Dumps.{found_file}
 use Rattle.rk_ldb.proofs.Taken.{TookUpTo-stop}
 use Rattle.rk_ldb.proofs.dump.dump_file.Goals as goal

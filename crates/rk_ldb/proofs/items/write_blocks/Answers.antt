@@ -1,4 +1,4 @@
-use Rattle.std.proofs.Common.{◌≡◌, ℕ, ◌+◌, length, take, drop, Bool, true, false, Ok, Err, sym, ap, ◌∙◌, subst, arith}
+use Rattle.std.proofs.Common.{◌≡◌, ◌+◌, length, take, drop, true, false, Ok, Err, sym, ap, ◌∙◌, subst, arith}
 use Rattle.std.proofs.lemmas.List.{length-take}
 use Rattle.std.proofs.lemmas.Result.{err_from_is_err_and}
 use Rattle.rk_disk.specs.Parts.{IsPart}
@@ -6,7 +6,9 @@ use Rattle.rk_log.specs.Left.{left, bytes_before}
 use Rattle.rk_ldb.specs.Stops.{TookUpTo}
 use Rattle.rk_ldb.specs.Wrote.{dump_lines, WritesBlock}
 use Rattle.rk_ldb.proofs.Taken.{Wrote-disk_failed}
-use Rattle.rk_ldb.proofs.Blocks.{OfFile, OfFile-with, OfFile-both, InLog, InLog-block, InLog-next}
+use Rattle.rk_disk.specs.Parts.{OfFile}
+use Rattle.rk_disk.proofs.Callers.{OfFile-with, OfFile-both}
+use Rattle.rk_ldb.proofs.Blocks.{InLog, InLog-block, InLog-next}
 use Rattle.rk_ldb.proofs.items.write_blocks.Goals as goal
 
 pub returns-in_err-len-clause-lines : goal.returns-in_err-len-clause-lines

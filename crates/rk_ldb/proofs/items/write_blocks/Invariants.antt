@@ -1,7 +1,8 @@
 use Rattle.std.proofs.Common.{◌≡◌, ◌≤◌, ◌-◌, length}
 use Rattle.rk_bytes.specs.Model.DiskImages.{IsLeft}
 use Rattle.rk_log.specs.Left.{bytes_before}
-use Rattle.rk_ldb.proofs.Blocks.{OfFile, InLog}
+use Rattle.rk_disk.specs.Parts.{OfFile}
+use Rattle.rk_ldb.proofs.Blocks.{InLog}
 use Rattle.rk_ldb.proofs.items.write_blocks.Given as goal
 
 -- the blocks before this one have their lines in the output, and no call failed

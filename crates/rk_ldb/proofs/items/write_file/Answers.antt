@@ -3,7 +3,7 @@ use Rattle.rk_bytes.specs.Model.LogItems.{log_items}
 use Rattle.rk_log.specs.Left.{Left, left}
 use Rattle.rk_ldb.specs.Stops.{TookUpTo}
 use Rattle.rk_ldb.specs.Wrote.{dump_lines}
-use Rattle.rk_ldb.proofs.Blocks.{OfFile-with}
+use Rattle.rk_disk.proofs.Callers.{OfFile-with}
 use Rattle.rk_ldb.proofs.items.write_file.Goals as goal
 
 pub returns-clause-lines : goal.returns-clause-lines
