@@ -24,7 +24,7 @@ place_total = then_total (on_total (λ (file : FileMeta). file.smallest) key_tot
 pub file_total : IsTotalOrder file_cmp
 file_total = then_total (then_total (on_total (λ (file : FileMeta). file.level) nat_cmp_total) (on_total (λ (file : FileMeta). file.smallest) key_total)) (on_total (λ (file : FileMeta). file.number) nat_cmp_total)
 
-is_less : (r : Ordering) → is_lt r ≡ true → r ≡ Less
+pub is_less : (r : Ordering) → is_lt r ≡ true → r ≡ Less
 is_less Less e = refl
 is_less Equal e = absurd (false≢true e)
 is_less Greater e = absurd (false≢true e)

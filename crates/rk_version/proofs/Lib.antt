@@ -1,8 +1,13 @@
 pub mod Apart
+pub mod ClashCounts
 pub mod Each
 pub mod FieldLemmas
 pub mod FileOrder
 pub mod PlaceLemmas
+pub mod RankChanges
+pub mod RankOrder
+pub mod RankPlaces
+pub mod RankingsLemmas
 pub mod Rising
 pub mod StatedLemmas
 pub mod StepLemmas

@@ -44,13 +44,13 @@ module _ {A : Type 0} (number : A → ℕ) where
   searchable : (n : ℕ) (xs : List A) → Rises number xs → IsNonDecreasingBy (λ x. ordering_index (nat_cmp (number x) n)) xs
   searchable n xs rises i j d order in' = comparison_rises (number (get_or xs i d)) (number (get_or xs j d)) n (rises_at xs rises i j d order in')
 
-  lower_before : (n i : ℕ) (xs : List A) → i < length xs → Rises number xs → ((d : A) → number (get_or xs i d) ≡ n) → AllByRecursion (λ x. number x < n) (take i xs)
+  pub lower_before : (n i : ℕ) (xs : List A) → i < length xs → Rises number xs → ((d : A) → number (get_or xs i d) ≡ n) → AllByRecursion (λ x. number x < n) (take i xs)
   lower_before n i [] in' rises here = absurd (omega arith)
   lower_before n zero (x ∷ xs) in' rises here = tt
   lower_before n (suc i) (x ∷ xs) in' rises here =
       let above = each_at (λ y. number x < number y) i xs x (omega arith) rises.0 in (omega (arith, above, here x), lower_before n i xs (omega arith) rises.1 here)
 
-  greater_after : (n i : ℕ) (xs : List A) → i < length xs → Rises number xs → ((d : A) → number (get_or xs i d) ≡ n) → AllByRecursion (λ x. n < number x) (drop (suc i) xs)
+  pub greater_after : (n i : ℕ) (xs : List A) → i < length xs → Rises number xs → ((d : A) → number (get_or xs i d) ≡ n) → AllByRecursion (λ x. n < number x) (drop (suc i) xs)
   greater_after n i [] in' rises here = absurd (omega arith)
   greater_after n zero (x ∷ xs) in' rises here = each_so (λ y. number x < number y) (λ y. n < number y) xs (λ y more. omega (arith, more, here x)) rises.0
   greater_after n (suc i) (x ∷ xs) in' rises here = greater_after n i xs (omega arith) rises.1 here

@@ -1,7 +1,8 @@
 -- The edits of a unit one after another, and its end.
-use Rattle.std.proofs.Common.{◌≡◌, ℕ, zero, suc, ◌+◌, ◌<◌, ◌≤◌, List, [], ◌∷◌, length, get_or, drop, Option, Some, None, Result, Ok, Err, refl, sym, ap, ◌∙◌, add-one, drop-cons, arith}
+use Rattle.std.proofs.Common.{◌≡◌, ℕ, zero, suc, ◌+◌, ◌<◌, ◌≤◌, List, [], ◌∷◌, length, get_or, drop, Option, Some, None, Result, Ok, Err, IsOk, is_ok, true, refl, sym, ap, subst, ◌∙◌, add-one, drop-cons, arith}
 use Rattle.std.specs.List.{AllZip}
 use Rattle.std.specs.Option.{option_or, option_map}
+use Rattle.std.proofs.lemmas.Bool.{false≢true}
 use Rattle.rk_log.specs.Items.{piece_bytes}
 use Rattle.rk_log.specs.declared.item.Piece.{Piece}
 use Rattle.rk_edit.specs.Read.{fields_or_none}
@@ -74,6 +75,15 @@ module _ (unit : ManifestUnit) (version : Version) where
   unfolding unit_step
   finished next e none =
       ap (λ r. r >>= λ next. elim (overlap next.families) [ Some why ↦ Err why | None ↦ Ok next ]) e ∙ ap (λ found. elim found [ Some why ↦ Err why | None ↦ Ok next ]) none
+
+  -- a unit that is known to be applied ends in the version after its edits
+  pub known_end : IsOk (unit_step unit version) → (next : Version) → steps_in_order edit_step unit.edits version ≡ Ok next → unit_step unit version ≡ Ok next
+  unfolding unit_step
+  known_end known next e = by (overlap next.families) refl
+    where
+      by : (found : Option ApplyFault) → overlap next.families ≡ found → unit_step unit version ≡ Ok next
+      by None none = finished next e none
+      by (Some why) found = absurd (false≢true (subst (λ r. is_ok r ≡ true) (overlapping next why e found) known))
 
 same_edits : (pieces : List Piece) (edits : List (List Field)) → AllZip (λ piece edit. edit_fields (piece_bytes piece) ≡ Ok edit) pieces edits → edits ≡ edits_of pieces
 same_edits [] [] all = refl

@@ -8,7 +8,7 @@ ghost use Rattle.rk_version.specs.Answers.{Applies};
 ghost use Rattle.rk_version.specs.Units.{IsUnit};
 
 use crate::draft::Draft;
-use crate::unit::{Unit, apply_unit};
+use crate::unit::{Unit, apply_known_unit, apply_unit};
 use crate::{ApplyFault, Version};
 use rk_bytes::Memory;
 use std::alloc::Global;
@@ -18,7 +18,7 @@ use std::mem;
 /// A version to which the units of a manifest are applied, each whole or not at all.
 ///
 /// The version is kept twice. A unit is applied to the spare one, which takes the place of the other if the
-/// unit isn't refused, and then to the other, which becomes the spare one.
+/// unit isn't refused, and then to the other, which becomes the spare one without another test.
 #[derive(Debug, Drop)]
 pub struct VersionBuilder {
     alloc: Global,
@@ -66,7 +66,7 @@ impl VersionBuilder {
         };
         let after = apply_unit(self.alloc, before, unit)?;
         let old = mem::replace(&mut self.current, after);
-        self.spare = apply_unit(self.alloc, old, unit).ok();
+        self.spare = apply_known_unit(self.alloc, old, unit).ok();
         Ok(())
     }
 

@@ -7,8 +7,9 @@ ghost use Rattle.rk_version.specs.Stated.{Tells};
 
 use crate::copy::copy_version;
 use crate::overlap::find_overlap;
+use crate::ranking::Ranking;
 use crate::stated::Stated;
-use crate::{ApplyFault, FamilyState, FileMeta, Version, families, logs};
+use crate::{ApplyFault, FamilyState, FileMeta, Version, families, logs, rankings};
 use rk_bytes::{Bytes, Memory, Seq};
 use rk_edit::EditView;
 use std::alloc::Global;
@@ -21,6 +22,8 @@ use std::mem;
 pub(crate) struct Draft {
     alloc: Global,
     version: Version,
+    /// What is kept of each family's files, so that a unit's end tests what it changed alone.
+    rankings: Seq<Ranking>,
 }
 
 impl Model for Draft {
@@ -28,11 +31,11 @@ impl Model for Draft {
 
     ghost Value = { Version };
 
-    ghost use Rattle.rk_version.specs.Bounds.{IsInOrder};
+    ghost use Rattle.rk_version.specs.Rankings.{IsRanked};
 
     ghost view = { λ d. d.version };
 
-    ghost invariant = { λ d. IsInOrder d.version };
+    ghost invariant = { λ d. IsRanked d.version d.rankings };
 }
 
 impl Draft {
@@ -58,6 +61,7 @@ impl Draft {
         Ok(Draft {
             alloc: self.alloc,
             version: copy_version(self.alloc, &self.version)?,
+            rankings: rankings::copy_rankings(self.alloc, self.rankings.as_slice())?,
         })
     }
 
@@ -81,7 +85,13 @@ impl Draft {
             greatest_family: 0,
             wals: Seq::new(alloc),
         };
-        Ok(Draft { alloc, version })
+        let mut rankings = Seq::new(alloc);
+        rankings.push(Ranking::new(alloc))?;
+        Ok(Draft {
+            alloc,
+            version,
+            rankings,
+        })
     }
 
     /// Whether a family has this id.
@@ -113,56 +123,82 @@ impl Draft {
     }
 
     /// With one more family, whose id none has, and which has no files.
-    pub(crate) fn with_family(self, id: u32, name: &[u8]) -> Result<Draft, ApplyFault>
+    pub(crate) fn with_family(self, id: u32, name: &[u8]) -> Result<Draft, Memory>
         requires { list_any (has_id id) self.families ≡ false }
-        ensures { Gives (Ok (with_families (add_family id name.now) self)) result }
+        ensures { IfOk result (λ more. more ≡ with_families (add_family id name.now) self) }
     {
-        let Draft { alloc, mut version } = self;
+        let Draft {
+            alloc,
+            mut version,
+            rankings,
+        } = self;
         let families = mem::replace(&mut version.families, Seq::new(alloc));
-        match families::with_family(alloc, families, id, name) {
-            Ok(families) => {
-                version.families = families;
-                Ok(Draft { alloc, version })
-            }
-            Err(Memory) => Err(ApplyFault::Memory),
-        }
+        let rankings = rankings::with_family(alloc, rankings, families.as_slice(), id)?;
+        version.families = families::with_family(alloc, families, id, name)?;
+        Ok(Draft {
+            alloc,
+            version,
+            rankings,
+        })
     }
 
     /// Without the family that has this id. Takes no memory.
     pub(crate) fn without_family(self, id: u32) -> Draft
         ensures { result ≡ with_families (drop_family id) self }
     {
-        let Draft { alloc, mut version } = self;
+        let Draft {
+            alloc,
+            mut version,
+            rankings,
+        } = self;
         let families = mem::replace(&mut version.families, Seq::new(alloc));
+        let rankings = rankings::without_family(rankings, families.as_slice(), id);
         version.families = families::without_family(families, id);
-        Draft { alloc, version }
+        Draft {
+            alloc,
+            version,
+            rankings,
+        }
     }
 
     /// With one more file in the family that has this id. No file has its number.
-    pub(crate) fn with_file(self, id: u32, file: FileMeta) -> Result<Draft, ApplyFault>
+    pub(crate) fn with_file(self, id: u32, file: FileMeta) -> Result<Draft, Memory>
         requires bounds { HasWholeBounds file }
         requires free { list_any (λ live. list_any (has_number file.number) live.files) self.families ≡ false }
-        ensures { Gives (Ok (with_files id (add_meta file) self)) result }
+        ensures { IfOk result (λ more. more ≡ with_files id (add_meta file) self) }
     {
-        let Draft { alloc, mut version } = self;
+        let Draft {
+            alloc,
+            mut version,
+            rankings,
+        } = self;
         let families = mem::replace(&mut version.families, Seq::new(alloc));
-        match families::with_file(alloc, families, id, file) {
-            Ok(families) => {
-                version.families = families;
-                Ok(Draft { alloc, version })
-            }
-            Err(Memory) => Err(ApplyFault::Memory),
-        }
+        let rankings = rankings::with_file(alloc, rankings, families.as_slice(), id, &file)?;
+        version.families = families::with_file(alloc, families, id, file)?;
+        Ok(Draft {
+            alloc,
+            version,
+            rankings,
+        })
     }
 
     /// Without the file of this number in the family that has this id. Takes no memory.
     pub(crate) fn without_file(self, id: u32, number: u64) -> Draft
         ensures { result ≡ with_files id (filter (λ file. not (has_number number file))) self }
     {
-        let Draft { alloc, mut version } = self;
+        let Draft {
+            alloc,
+            mut version,
+            rankings,
+        } = self;
         let families = mem::replace(&mut version.families, Seq::new(alloc));
+        let rankings = rankings::without_file(alloc, rankings, families.as_slice(), id, number);
         version.families = families::without_file(alloc, families, id, number);
-        Draft { alloc, version }
+        Draft {
+            alloc,
+            version,
+            rankings,
+        }
     }
 
     /// Tests whether files overlap at a level above 0. The fault names the lowest family, and in it the lowest
@@ -170,7 +206,11 @@ impl Draft {
     pub(crate) fn check_overlap(&self) -> Result<(), ApplyFault>
         ensures { Finds (overlap self.now.families) result }
     {
-        find_overlap(self.alloc, self.version.families.as_slice())
+        if rankings::are_apart(self.rankings.as_slice()) {
+            Ok(())
+        } else {
+            find_overlap(self.alloc, self.version.families.as_slice())
+        }
     }
 
     /// With the numbers that an edit states, and the tracked logs after it.
@@ -182,7 +222,11 @@ impl Draft {
         requires { Tells stated.now view }
         ensures { Gives (Ok (with_numbers view.entry self)) result }
     {
-        let Draft { alloc, mut version } = self;
+        let Draft {
+            alloc,
+            mut version,
+            rankings,
+        } = self;
         let id = stated.family.unwrap_or(0);
         let families = mem::replace(&mut version.families, Seq::new(alloc));
         version.families = families::with_log(families, id, stated.log_number.unwrap_or(0));
@@ -197,7 +241,11 @@ impl Draft {
         match logs::tracked_after(wals, view) {
             Ok(wals) => {
                 version.wals = wals;
-                Ok(Draft { alloc, version })
+                Ok(Draft {
+                    alloc,
+                    version,
+                    rankings,
+                })
             }
             Err(Memory) => Err(ApplyFault::Memory),
         }

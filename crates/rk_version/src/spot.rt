@@ -50,7 +50,7 @@ impl<'a> Spot<'a> {
     }
 
     /// Whether the file in this place, which comes before another, overlaps it at a level above 0.
-    fn clashes_with(&self, other: &Spot<'_>) -> bool
+    pub(crate) fn clashes_with(&self, other: &Spot<'_>) -> bool
         requires own { IsSpot self.now }
         requires other { IsSpot other.now }
         ensures { result ≡ clash (file_at self.now) (file_at other.now) }

@@ -1,5 +1,6 @@
 //! The steps of an edit: its comparator is tested, then its family, then its files, and its numbers count.
-ghost use Rattle.std.specs.Prelude.{◌≡◌, ◌≤◌, List, length, option_map, filter_map, IfOk};
+ghost use Rattle.std.specs.Prelude.{◌≡◌, ◌≤◌, List, length, option_map, filter_map, Ok, IfOk};
+ghost use Rattle.rk_bytes.specs.declared.model.manifest.Version.{Version};
 ghost use Rattle.rk_bytes.specs.Model.VersionEdit.{Field as StatedField, deleted_in, added_in};
 ghost use Rattle.rk_bytes.specs.Model.Manifest.{family_step, delete_step, add_step, file_meta, steps_in_order, file_steps, has_other_comparator, edit_step};
 ghost use Rattle.rk_edit.specs.Fields.{new_file};
@@ -71,7 +72,7 @@ fn find_family(draft: Draft, id: u32, family_add: Option<&[u8]>) -> Result<Draft
             if draft.has_id(id) || draft.has_name(name) {
                 return Err(ApplyFault::FamilyExists(id));
             }
-            draft.with_family(id, name)
+            or_memory(draft.with_family(id, name))
         }
         None => {
             if !draft.has_id(id) {
@@ -148,7 +149,7 @@ fn add_file(alloc: Global, draft: Draft, id: u32, file: AddFile<'_>) -> Result<D
         return Err(ApplyFault::AddPresent(file.number));
     }
     match meta_of(alloc, file) {
-        Ok(meta) => draft.with_file(id, meta),
+        Ok(meta) => or_memory(draft.with_file(id, meta)),
         Err(Memory) => Err(ApplyFault::Memory),
     }
 }
@@ -165,4 +166,14 @@ fn meta_of(alloc: Global, file: AddFile<'_>) -> Result<FileMeta, Memory>
         largest: Bytes::copy_of(alloc, file.largest)?,
         seqs: file.seqs,
     })
+}
+
+/// The version, or want of memory as a refusal.
+fn or_memory(answer: Result<Draft, Memory>) -> Result<Draft, ApplyFault>
+    ensures { (next : Version) → IfOk answer (λ draft. draft ≡ next) → Gives (Ok next) result }
+{
+    match answer {
+        Ok(draft) => Ok(draft),
+        Err(Memory) => Err(ApplyFault::Memory),
+    }
 }

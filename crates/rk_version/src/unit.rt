@@ -1,4 +1,4 @@
-ghost use Rattle.std.specs.Prelude.{◌≡◌, IsOk};
+ghost use Rattle.std.specs.Prelude.{◌≡◌, Ok, IsOk, IfOk};
 ghost use Rattle.std.specs.List.{All};
 ghost use Rattle.rk_log.specs.Items.{piece_bytes};
 ghost use Rattle.rk_bytes.specs.Model.VersionEdit.{edit_fields};
@@ -9,7 +9,7 @@ ghost use Rattle.rk_version.specs.Units.{edits_of, meaning};
 use crate::ApplyFault;
 use crate::draft::Draft;
 use crate::step::apply_edit;
-use rk_bytes::Seq;
+use rk_bytes::{Memory, Seq};
 use rk_edit::EditView;
 use rk_log::Piece;
 use std::alloc::Global;
@@ -31,6 +31,22 @@ pub(crate) fn apply_unit(alloc: Global, draft: Draft, unit: &Unit<'_>) -> Result
     let next = apply_edits(alloc, draft, unit.pieces.as_slice())?;
     next.check_overlap()?;
     Ok(next)
+}
+
+/// The version after a unit that is known to be applied to it, whose files need no test.
+pub(crate) fn apply_known_unit(
+    alloc: Global,
+    draft: Draft,
+    unit: &Unit<'_>,
+) -> Result<Draft, Memory>
+    requires reads { All (λ piece. IsOk (edit_fields (piece_bytes piece))) unit.now.pieces }
+    requires known { IsOk (unit_step (meaning unit.now) draft) }
+    ensures { IfOk result (λ next. unit_step (meaning unit.now) draft ≡ Ok next) }
+{
+    match apply_edits(alloc, draft, unit.pieces.as_slice()) {
+        Ok(draft) => Ok(draft),
+        Err(_) => Err(Memory),
+    }
 }
 
 /// The version after edits.

@@ -4,6 +4,8 @@ use Rattle.std.specs.Option.{option_or, unwrap_or}
 use Rattle.rk_bytes.specs.declared.model.manifest.FamilyState.{FamilyState}
 use Rattle.rk_bytes.specs.Model.Manifest.{has_id, tracked_after}
 use Rattle.rk_version.specs.Places.{Rises}
+use Rattle.rk_version.specs.Rankings.{rankings_of}
+use Rattle.rk_version.proofs.RankingsLemmas.{kept_logged}
 use Rattle.rk_version.proofs.VersionOrder.{order_families, order_logged, order_tracked}
 use Rattle.rk_version.proofs.draft.Draft.with_numbers.Goals as goal
 
@@ -14,12 +16,15 @@ logged id log = map (λ live. cond (has_id id live) (record live { log = max liv
 pub invariant_of-result : goal.invariant_of-result
 invariant_of-result c =
     let before = c.self.inside.version in
-    let o = order_families before c.with_log.result (logged c.unwrap_or-id.result c.unwrap_or.result before.families) (order_logged c.unwrap_or-id.result (λ log. max log c.unwrap_or.result) before.families)
-    (c.with_log.ensures ∙ ap (logged c.unwrap_or-id.result c.unwrap_or.result) c.replace-families.ensures.value) c.self.invariant in
+    let families_are = c.with_log.ensures ∙ ap (logged c.unwrap_or-id.result c.unwrap_or.result) c.replace-families.ensures.value in
+    let o = order_families before c.with_log.result (logged c.unwrap_or-id.result c.unwrap_or.result before.families) (order_logged c.unwrap_or-id.result (λ log. max log c.unwrap_or.result) before.families) families_are c.self.invariant.order in
     record {
-      ids = o.ids;
-      files = o.files;
-      logs = subst (Rises (λ tracked. tracked.log)) (sym (c.in-Ok.ensures ∙ ap (tracked_after c.args.view) c.replace-wals.ensures.value)) (order_tracked c.args.view before.wals o.logs);
+      order = record {
+        ids = o.ids;
+        files = o.files;
+        logs = subst (Rises (λ tracked. tracked.log)) (sym (c.in-Ok.ensures ∙ ap (tracked_after c.args.view) c.replace-wals.ensures.value)) (order_tracked c.args.view before.wals o.logs);
+      };
+      kept = c.self.invariant.kept ∙ sym (kept_logged c.unwrap_or-id.result (λ log. max log c.unwrap_or.result) before.families) ∙ ap rankings_of (sym families_are);
     }
 
 pub returns-in-Ok : goal.returns-in-Ok
