@@ -1,0 +1,12 @@
+pub mod SortLemmas
+pub mod CountLemmas
+pub mod WalkLemmas
+pub mod ReplayLemmas
+pub mod FedLemmas
+pub mod RunLemmas
+pub mod SequenceLemmas
+pub mod NextLemmas
+pub mod BatchLemmas
+pub mod BlockLemmas
+pub mod TakeLemmas
+pub mod LogsLemmas
