@@ -1,3 +1,6 @@
+mod ByteLemmas
+mod KeyLemmas
+mod RisingLemmas
 mod LeftLemmas
 mod TakenLemmas
 mod OpenLemmas

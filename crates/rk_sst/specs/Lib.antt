@@ -1,4 +1,5 @@
 pub mod Errors
 pub mod Seen
+pub mod Rising
 pub mod Taken
 pub mod Opened

@@ -6,7 +6,7 @@ mod open;
 mod records;
 
 pub use error::SstErr;
-pub use open::{OpenTable, open_table};
+pub use open::{OpenTable, open_sized, open_table};
 pub use rk_table::{Record, TableRef, TableWhat, TableWhy};
 
 #[cfg(test)]

@@ -1,11 +1,13 @@
 ghost use Rattle.std.specs.Prelude.{◌≡◌, ◌<◌, ◌≤◌, length, IfOk, IfSome};
 ghost use Rattle.rk_bytes.specs.Model.DiskImages.{IsLeft, contents_told, Counts};
 ghost use Rattle.rk_sst.specs.Errors.{disk_failed};
-ghost use Rattle.rk_sst.specs.Opened.{Opens, IsOpen, GivesNext, Steps};
+ghost use Rattle.rk_sst.specs.Seen.{under_family};
+ghost use Rattle.rk_sst.specs.Rising.{RisesOn};
+ghost use Rattle.rk_sst.specs.Opened.{Opens, IsOpen, HasLength, HasSequences, GivesNext, Steps};
 
-use crate::records::read_records;
+use crate::records::take_block;
 use crate::{Record, SstErr, TableRef};
-use rk_bytes::Seq;
+use rk_bytes::{Bytes, Seq};
 use rk_cache::{BlockCache, Status};
 use rk_disk::Disk;
 use rk_names::{FileName, write_name};
@@ -17,7 +19,8 @@ use std::num::NonZeroUsize;
 const KEPT_BLOCKS: usize = 64;
 
 /// A good table on a disk, of which the data records are given block by block. Contracts see its number, what
-/// is known of it, the number of the next data block, and the blocks that are kept.
+/// is known of it, the number of the next data block, the last internal key that was given, and the blocks that
+/// are kept.
 #[derive(Drop)]
 pub struct OpenTable {
     alloc: Global,
@@ -25,14 +28,18 @@ pub struct OpenTable {
     number: u64,
     table: TableRef,
     block: usize,
+    last: Option<Bytes>,
 }
 
 impl Model for OpenTable {
+    ghost use Rattle.std.specs.Prelude.{◌≤◌, length, IfSome};
     ghost use Rattle.rk_sst.specs.Seen.{OpenSeen};
 
     ghost Value = { OpenSeen };
 
-    ghost view = { λ t. record { number = t.number; table = t.table; block = t.block; cache = t.cache } };
+    ghost view = { λ t. record { number = t.number; table = t.table; block = t.block; last = t.last; cache = t.cache } };
+
+    ghost invariant = { λ t. IfSome t.last (λ key. 8 ≤ length key) };
 }
 
 /// Opens the table with this number: finds its status, for which each of its blocks is read once. At most 64
@@ -42,6 +49,7 @@ impl Model for OpenTable {
 /// that, `DiskFault` where the disk fails, and `Memory` only where memory runs out.
 pub fn open_table<D: Disk>(alloc: Global, disk: &mut D, number: u64) -> Result<OpenTable, SstErr>
     ensures table { IfSome (contents_told (D.told disk.old)) (λ files. Opens files number result) }
+    ensures sequences { IfOk result HasSequences }
     ensures left { IsLeft (D.told disk.old) (D.told disk.new) }
     ensures faults { Counts (disk_failed result) (D.faults disk.old) (D.faults disk.new) }
 {
@@ -49,6 +57,22 @@ pub fn open_table<D: Disk>(alloc: Global, disk: &mut D, number: u64) -> Result<O
     let Some(file_len) = disk.size(name.as_str())? else {
         return Err(SstErr::NoTable);
     };
+    open_sized(alloc, disk, number, file_len)
+}
+
+/// Opens the table with this number, whose file has so many bytes, as `open_table` does. `NoTable` doesn't come.
+pub fn open_sized<D: Disk>(
+    alloc: Global,
+    disk: &mut D,
+    number: u64,
+    file_len: u64,
+) -> Result<OpenTable, SstErr>
+    requires there { IfSome (contents_told (D.told disk.old)) (HasLength number file_len) }
+    ensures table { IfSome (contents_told (D.told disk.old)) (λ files. Opens files number result) }
+    ensures sequences { IfOk result HasSequences }
+    ensures left { IsLeft (D.told disk.old) (D.told disk.new) }
+    ensures faults { Counts (disk_failed result) (D.faults disk.old) (D.faults disk.new) }
+{
     let mut cache = BlockCache::new(alloc, NonZeroUsize::new(KEPT_BLOCKS).unwrap())?;
     match cache.read_status(disk, number, file_len)? {
         Status::Good(table) => Ok(OpenTable {
@@ -57,6 +81,7 @@ pub fn open_table<D: Disk>(alloc: Global, disk: &mut D, number: u64) -> Result<O
             number,
             table,
             block: 0,
+            last: None,
         }),
         Status::Damaged { why, place } => Err(SstErr::Damaged { why, place }),
         Status::Unsupported(what) => Err(SstErr::Unsupported(what)),
@@ -71,8 +96,15 @@ impl OpenTable {
         &self.table
     }
 
+    /// Gives the records under this family from now on.
+    pub fn set_family(&mut self, family: u32)
+        ensures { self.new ≡ under_family family self.old }
+    {
+        self.table.family = family;
+    }
+
     /// The records of the next data block, in their order, or `None` where all were given. Each block is read
-    /// where it isn't kept.
+    /// where it isn't kept. Whatever the disk tells, the internal keys of all that is given rise.
     ///
     /// `DiskFault` comes where the disk fails, and `Memory` only where memory runs out. `Damaged` and
     /// `Unsupported` come only where the table isn't as it was when it was opened. After each of these the same
@@ -81,6 +113,7 @@ impl OpenTable {
         requires { IfSome (contents_told (D.told disk.old)) (IsOpen self.old) }
         ensures records { IfSome (contents_told (D.told disk.old)) (λ files. GivesNext self.old files result self.new) }
         ensures open { IfSome (contents_told (D.told disk.old)) (IsOpen self.new) }
+        ensures rising { RisesOn self.old result self.new.last }
         ensures table { self.new.table ≡ self.old.table }
         ensures block { Steps self.old result self.new.block }
         ensures left { IsLeft (D.told disk.old) (D.told disk.new) }
@@ -89,13 +122,14 @@ impl OpenTable {
         if self.block >= self.table.index.as_slice().len() {
             return Ok(None);
         }
-        let records = read_records(
+        let records = take_block(
             self.alloc,
             &mut self.cache,
             disk,
             self.number,
             &self.table,
             self.block,
+            &mut self.last,
         )?;
         self.block += 1;
         Ok(Some(records))
