@@ -10,6 +10,7 @@ mod line;
 mod quote;
 mod refusal;
 mod table;
+mod view;
 
 pub use batch::batch_lines;
 pub use edit::edit_lines;

@@ -1,6 +1,6 @@
 //! The lines of refusals.
 ghost use Rattle.std.specs.Prelude.{◌≡◌, ◌++◌, OnOk};
-ghost use Rattle.rk_bytes.specs.Model.Lines.{then_number, refusal_line, open_err_words, no_log_words, no_table_words, current_fault_words, manifest_fault_words, damaged_words, unsupported_words, wal_err_words, manifest_why_words, edit_why_words, apply_fault_words, which_word, table_why_word, table_what_words, log_what_words, unsupported_log_words, wal_why_words};
+ghost use Rattle.rk_bytes.specs.Model.Lines.{then_number, refusal_line, open_err_words, no_log_words, no_table_words, no_family_words, current_fault_words, manifest_fault_words, damaged_words, unsupported_words, wal_err_words, manifest_why_words, edit_why_words, apply_fault_words, which_word, table_why_word, table_what_words, log_what_words, unsupported_log_words, wal_why_words};
 
 use crate::Line;
 use crate::item::why_word;
@@ -39,6 +39,17 @@ impl Line {
     {
         self.clear();
         self.put_with_number(b"refused: NoTable", number)?;
+        self.end()
+    }
+
+    /// Makes this the line that says that no live family has this name, which stands between quotation
+    /// marks. `Memory` comes only where memory runs out.
+    pub fn set_no_family(&mut self, name: &[u8]) -> Result<(), Memory>
+        ensures { OnOk result (self.new ≡ refusal_line (no_family_words name.now)) }
+    {
+        self.clear();
+        self.put(b"refused: NoFamily ")?;
+        self.put_quoted(name, false)?;
         self.end()
     }
 

@@ -1,13 +1,14 @@
 // The texts are those of the description of the commands, or are written down by its rules.
 use super::*;
 use rk_batch::{BatchFault, BatchRecord, BatchView};
-use rk_bytes::Bytes;
 use rk_bytes::model::{
     ApplyFault, EditWhy, Kind, LogWhat, ManifestFault, ManifestWhy, OpenErr, Property, RangeDel,
     Record, TableWhat, TableWhy, WalErr, WalWhy,
 };
+use rk_bytes::{Bytes, Seq};
 use rk_edit::{EditFault, Field};
 use rk_log::{EndKind, GapWhy, Item, Piece};
+use rk_view::{Answer, Operands, Row};
 use std::test::Fail;
 
 // A batch of puts of `a`, `b` and `c` from sequence number 5 on.
@@ -233,5 +234,41 @@ fn what_a_table_holds_is_shown(rt: HostRuntime) -> Result<(), Fail> {
         line.as_slice(),
         b"\"rocksdb.num.entries\" = \"\\x01\"\n".as_slice()
     );
+    Ok(())
+}
+
+#[test]
+fn what_is_shown_of_keys_has_its_line(rt: HostRuntime) -> Result<(), Fail> {
+    let alloc = rt.alloc();
+    let mut line = Line::new(alloc);
+    line.set_answer(&Answer::Absent, false)?;
+    assert_eq!(rt; line.as_slice(), b"not found\n".as_slice());
+    line.set_row(
+        &Row {
+            key: b"a",
+            answer: Answer::Found(b"1"),
+        },
+        true,
+    )?;
+    assert_eq!(rt; line.as_slice(), b"0x61 => 0x31\n".as_slice());
+    let mut newest_first = Seq::new(alloc);
+    newest_first.push(Bytes::copy_of(alloc, b"z")?)?;
+    newest_first.push(Bytes::copy_of(alloc, b"y")?)?;
+    let shown = Answer::Merge(Operands {
+        newest_first,
+        base: Some(Bytes::copy_of(alloc, b"x")?),
+    });
+    line.set_answer(&shown, false)?;
+    assert_eq!(rt;
+        line.as_slice(),
+        b"merge \"z\" \"y\" base \"x\"\n".as_slice()
+    );
+    line.set_counts(1, 0, 2)?;
+    assert_eq!(rt;
+        line.as_slice(),
+        b"ok: families 1 files 0 records 2\n".as_slice()
+    );
+    line.set_no_family(b"f")?;
+    assert_eq!(rt; line.as_slice(), b"refused: NoFamily \"f\"\n".as_slice());
     Ok(())
 }
