@@ -6,11 +6,11 @@ use Rattle.rk_bytes.specs.declared.model.open.OpenErr.{OpenErr}
 use Rattle.rk_bytes.specs.declared.model.open.OpenErr.TheVariants.{NoCurrent, BadCurrent, NoManifest, Manifest, MissingTable, SizeMismatch, DamagedTable, UnsupportedTable, OutOfBounds, MissingLog, ShortLog, Wal, NoUsableManifest, DiskFault, Memory}
 use Rattle.rk_bytes.specs.Model.Numbers.{◌>>=◌}
 use Rattle.rk_bytes.specs.Model.DiskImages.{Directory}
-use Rattle.rk_open.specs.Answers.{Answers}
+use Rattle.rk_open.specs.Answers.{Answers, RefusesAs}
 
 module _ {T U : Type 0} where
   -- a refusal is that of all that goes on from what is refused
-  Answers-refused : (why : OpenErr) (wanted : Result T OpenErr) (on : T → Result U OpenErr) → Answers wanted (Err why) → Answers (wanted >>= on) (Err why)
+  pub Answers-refused : (why : OpenErr) (wanted : Result T OpenErr) (on : T → Result U OpenErr) → RefusesAs wanted why → RefusesAs (wanted >>= on) why
   Answers-refused NoCurrent wanted on is = ap (λ (answer : Result T OpenErr). answer >>= on) is
   Answers-refused (BadCurrent cause) wanted on is = ap (λ (answer : Result T OpenErr). answer >>= on) is
   Answers-refused (NoManifest n) wanted on is = ap (λ (answer : Result T OpenErr). answer >>= on) is

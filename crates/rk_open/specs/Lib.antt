@@ -1,1 +1,7 @@
 pub mod Answers
+pub mod Faults
+pub mod Logged
+pub mod Logs
+pub mod Opened
+pub mod Tables
+pub mod Versions

@@ -1,12 +1,26 @@
 //! What a database's directory is opened to (RocksDB's db/version_set.cc and db/db_impl/db_impl_open.cc).
 #![tactic(auto)]
 
+mod bounds;
 mod current;
+mod directory;
 mod fault;
+mod listed;
+mod loaded;
+mod logs;
+mod open_listed;
+mod opened;
+mod ranges;
+mod run;
+mod state;
+mod tables;
+mod tracked;
 mod version;
 
 pub use current::named_manifest;
-pub use rk_bytes::model::OpenErr;
+pub use directory::{open_db, open_full};
+pub use opened::Opened;
+pub use rk_bytes::model::{Mode, OpenErr};
 pub use version::{current_version, last_version};
 
 #[cfg(test)]

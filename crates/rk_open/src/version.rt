@@ -11,6 +11,7 @@ ghost use Rattle.rk_disk.specs.Faults.{disk_failed};
 ghost use Rattle.rk_disk.specs.Parts.{OfFile};
 ghost use Rattle.rk_manifest.specs.Folds.{HasFed, wants_more, bytes_read};
 ghost use Rattle.rk_open.specs.Answers.{Answers, open_failed};
+ghost use Rattle.rk_open.specs.Versions.{IsLast};
 
 use crate::fault::not_read;
 use crate::{OpenErr, named_manifest};
@@ -25,6 +26,7 @@ use std::alloc::Global;
 /// none, and the others come as in `last_version`.
 pub fn current_version<D: Disk>(alloc: Global, disk: &mut D) -> Result<Version, OpenErr>
     ensures version { IfSome (contents_told (D.told disk.old)) (λ d. Answers (manifest_version (get d)) result) }
+    ensures last { IfOk result IsLast }
     ensures faults { Counts (open_failed result) (D.faults disk.old) (D.faults disk.new) }
     ensures left { IsLeft (D.told disk.old) (D.told disk.new) }
 {
@@ -39,6 +41,7 @@ pub fn current_version<D: Disk>(alloc: Global, disk: &mut D) -> Result<Version, 
 /// buffer serves for all of its blocks.
 pub fn last_version<D: Disk>(alloc: Global, disk: &mut D, number: u64) -> Result<Version, OpenErr>
     ensures version { IfSome (contents_told (D.told disk.old)) (λ d. Answers (version_in (get d) number) result) }
+    ensures last { IfOk result IsLast }
     ensures faults { Counts (open_failed result) (D.faults disk.old) (D.faults disk.new) }
     ensures left { IsLeft (D.told disk.old) (D.told disk.new) }
 {
@@ -63,6 +66,7 @@ fn fold_file<D: Disk>(
     size: u64,
 ) -> Result<ManifestFold, DiskErr>
     ensures fed { IfOk result (λ fold. OfFile (D.told disk.old) name.now size (HasFed fold true)) }
+    ensures bytes { IfOk result (λ fold. (bytes : List ℕ) × HasFed fold true bytes) }
     ensures ended { IfOk result (λ fold. wants_more fold ≡ false) }
     ensures left { IsLeft (D.told disk.old) (D.told disk.new) }
     ensures faults { Counts (disk_failed result) (D.faults disk.old) (D.faults disk.new) }
@@ -85,6 +89,7 @@ fn feed_all<D: Disk>(
     requires begin { bytes_read fold.old ≡ 0 }
     requires unfed { HasFed fold.old false [] }
     ensures fed { OnOk result (OfFile (D.told disk.old) name.now size (HasFed fold.new true)) }
+    ensures bytes { OnOk result ((bytes : List ℕ) × HasFed fold.new true bytes) }
     ensures ended { OnOk result (wants_more fold.new ≡ false) }
     ensures left { IsLeft (D.told disk.old) (D.told disk.new) }
     ensures faults { Counts (disk_failed result) (D.faults disk.old) (D.faults disk.new) }

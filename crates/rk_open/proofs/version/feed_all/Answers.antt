@@ -1,4 +1,4 @@
-use Rattle.std.proofs.Common.{◌≡◌, ◌+◌, true, false, ◌++◌, length, take, rules, ap, ◌∙◌, subst, arith}
+use Rattle.std.proofs.Common.{◌≡◌, ◌+◌, true, false, [], ◌++◌, length, take, rules, ap, ◌∙◌, subst, arith}
 use Rattle.std.proofs.lemmas.List.{length-take}
 use Rattle.rk_disk.specs.Parts.{IsPart, OfFile}
 use Rattle.rk_disk.proofs.Callers.{OfFile-both, OfFile-all}
@@ -14,6 +14,7 @@ loop-len-init g c = record {
   left = search rules;
   faults = search rules;
   fed = OfFile-all (g.D.Disk.told c.args.disk.now) c.args.name.now c.args.size (λ bytes. HasFed c.args.fold.now false (take 0 bytes)) (λ bytes. c.requires.unfed);
+  bytes = ([], c.requires.unfed);
 }
 
 pub loop-len-preserved : goal.loop-len-preserved
@@ -35,6 +36,7 @@ loop-len-preserved g c =
           (λ bytes fed is. subst (HasFed c.feed.new.self false) (part_fed at bytes block c.in_ok-len.last is ∙ ap (λ n. take (at + n) bytes) len)
           (subst (λ last. HasFed c.feed.new.self last (take at bytes ++ block)) c.if-last.false (c.in_ok-feed.ensures.fed (take at bytes) fed)))
           inv.fed is;
+      bytes = (inv.bytes.0 ++ block, subst (λ last. HasFed c.feed.new.self last (inv.bytes.0 ++ block)) c.if-last.false (c.in_ok-feed.ensures.fed inv.bytes.0 inv.bytes.1));
     }
 
 pub returns-then-last-clause-fed : goal.returns-then-last-clause-fed
@@ -49,3 +51,9 @@ returns-then-last-clause-fed g c =
     (λ bytes fed is. subst (HasFed c.feed.new.self true) (last_fed at bytes block is)
     (subst (λ last. HasFed c.feed.new.self last (take at bytes ++ block)) c.if-last.true (c.in_ok-feed.ensures.fed (take at bytes) fed)))
     inv.fed is
+
+pub returns-then-last-clause-bytes : goal.returns-then-last-clause-bytes
+returns-then-last-clause-bytes g c =
+    let fed = c.loop-len.invariant.bytes in
+    let block = take c.in_ok-len.len c.read_part.new.buf in
+    (fed.0 ++ block, subst (λ last. HasFed c.feed.new.self last (fed.0 ++ block)) c.if-last.true (c.in_ok-feed.ensures.fed fed.0 fed.1))

@@ -1,4 +1,4 @@
-use Rattle.std.proofs.Common.{◌≡◌, ◌≤◌, ◌-◌, false, length, take}
+use Rattle.std.proofs.Common.{◌≡◌, ℕ, ◌≤◌, ◌-◌, false, List, length, take}
 use Rattle.rk_bytes.specs.Model.DiskImages.{IsLeft}
 use Rattle.rk_disk.specs.Parts.{OfFile}
 use Rattle.rk_manifest.specs.Folds.{HasFed, bytes_read}
@@ -14,6 +14,7 @@ invariant-loop-len g l =
       left : IsLeft (g.D.Disk.told l.fn.disk) (g.D.Disk.told l.disk);
       faults : g.D.Disk.faults l.disk ≡ g.D.Disk.faults l.fn.disk;
       fed : OfFile (g.D.Disk.told l.fn.disk) l.name l.size (λ bytes. HasFed l.fold false (take l.at bytes));
+      bytes : (bytes : List ℕ) × HasFed l.fold false bytes;
     }
 
 abbrev pub decreases-loop-len : goal.decreases-loop-len

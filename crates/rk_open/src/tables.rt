@@ -1,0 +1,138 @@
+//! The tables that a version lists, as a state.
+ghost use Rattle.std.specs.Prelude.{◌≡◌, ◌+◌, ◌≤◌, [], map, flat_map, length, IfOk, IfSome, MatchResult};
+ghost use Rattle.std.specs.List.{AllByRecursion};
+ghost use Rattle.std.specs.FinMap.{get};
+ghost use Rattle.rk_bytes.specs.Model.BlockEntries.{collected};
+ghost use Rattle.rk_bytes.specs.Model.DiskImages.{IsLeft, Counts, contents_told};
+ghost use Rattle.rk_bytes.specs.Model.Opening.{family_line, greatest_sequence, listed_tables, state_with, table_file, table_records};
+ghost use Rattle.rk_version.specs.Bounds.{HasWholeBounds};
+ghost use Rattle.rk_sst.specs.Opened.{HasSequences};
+ghost use Rattle.rk_open.specs.Answers.{AnswersAs, RefusesAs, open_failed};
+ghost use Rattle.rk_open.specs.Opened.{IsTopOf};
+ghost use Rattle.rk_open.specs.Tables.{listed_of, IsListed, AddsTable, AddsTables};
+ghost use Rattle.rk_open.specs.Versions.{IsLast};
+
+use crate::OpenErr;
+use crate::listed::{ListedTable, sorted_tables};
+use crate::loaded::Loaded;
+use crate::open_listed::open_table;
+use crate::ranges::{add_ranges, greatest_with};
+use crate::run::{greatest_sequence, read_run};
+use rk_bytes::model::Version;
+use rk_disk::Disk;
+use rk_sst::OpenTable;
+use rk_view::State;
+use std::alloc::Global;
+
+/// Adds what the tables of a version hold to a state that has its families alone. The first refusal counts, table by
+/// table in rising number: `MissingTable`, `SizeMismatch`, `DamagedTable` or `UnsupportedTable`, and `OutOfBounds`.
+/// `DiskFault` comes where the disk fails, and `Memory` where memory runs out.
+pub(crate) fn add_tables<D: Disk>(
+    alloc: Global,
+    disk: &mut D,
+    version: &Version,
+    state: State,
+) -> Result<Loaded, OpenErr>
+    requires last { IsLast version.now }
+    requires state { state.state ≡ state_with (map family_line version.now.families) [] [] }
+    ensures loaded { IfSome (contents_told (D.told disk.old)) (λ d. AnswersAs (λ tables loaded.
+        (loaded.state.state ≡ state_with (map family_line version.now.families) tables []) × (loaded.top ≡ greatest_sequence (flat_map table_records tables)))
+        (collected (table_file (get d)) (listed_tables version.now.families)) result) }
+    ensures top { IfOk result (λ loaded. IsTopOf loaded.top loaded.state.state) }
+    ensures faults { Counts (open_failed result) (D.faults disk.old) (D.faults disk.new) }
+    ensures left { IsLeft (D.told disk.old) (D.told disk.new) }
+{
+    let mut state = state;
+    let Ok(tables) = sorted_tables(alloc, version.families.as_slice()) else {
+        return Err(OpenErr::Memory);
+    };
+    if state.reserve_runs(tables.len()).is_err() {
+        return Err(OpenErr::Memory);
+    }
+    match add_each(alloc, disk, tables.as_slice(), &mut state) {
+        Ok(top) => Ok(Loaded { state, top }),
+        Err(why) => Err(why),
+    }
+}
+
+/// Adds the tables to a state that has room for a run of each, and gives the greatest sequence number of a record in
+/// them.
+fn add_each<D: Disk>(
+    alloc: Global,
+    disk: &mut D,
+    tables: &[ListedTable<'_>],
+    state: &mut State,
+) -> Result<u64, OpenErr>
+    requires bounds { AllByRecursion (λ table. HasWholeBounds table.file.now) tables.now }
+    requires spare { length tables.now ≤ state.old.spare }
+    ensures tables { MatchResult result (AddsTables (contents_told (D.told disk.old)) (map listed_of tables.now) state.old.state state.new.state)
+        (λ why. IfSome (contents_told (D.told disk.old)) (λ d. RefusesAs (collected (table_file (get d)) (map listed_of tables.now)) why)) }
+    ensures faults { Counts (open_failed result) (D.faults disk.old) (D.faults disk.new) }
+    ensures left { IsLeft (D.told disk.old) (D.told disk.new) }
+{
+    let mut top = 0;
+    for (index, table) in tables.iter().enumerate() {
+        let more = tables.len() - index - 1;
+        match add_table(alloc, disk, table, more, state) {
+            Ok(own) => top = top.max(own),
+            Err(why) => return Err(why),
+        }
+    }
+    Ok(top)
+}
+
+/// Adds a table to a state that has room for its run and so many more, and gives the greatest sequence number of a
+/// record in it. There is then room for these runs.
+fn add_table<D: Disk>(
+    alloc: Global,
+    disk: &mut D,
+    listed: &ListedTable<'_>,
+    runs: usize,
+    state: &mut State,
+) -> Result<u64, OpenErr>
+    requires bounds { HasWholeBounds listed.now.file.now }
+    requires spare { runs + 1 ≤ state.old.spare }
+    ensures table { MatchResult result (AddsTable (contents_told (D.told disk.old)) (listed_of listed.now) state.old.state state.new.state)
+        (λ why. IfSome (contents_told (D.told disk.old)) (λ d. RefusesAs (table_file (get d) (listed_of listed.now)) why)) }
+    ensures spare { IfOk result (λ _. runs ≤ state.new.spare) }
+    ensures faults { Counts (open_failed result) (D.faults disk.old) (D.faults disk.new) }
+    ensures left { IsLeft (D.told disk.old) (D.told disk.new) }
+{
+    match open_table(alloc, disk, listed) {
+        Ok(mut table) => add_open(alloc, disk, listed, &mut table, runs, state),
+        Err(why) => Err(why),
+    }
+}
+
+/// Adds a table that is open to a state, as `add_table` does.
+fn add_open<D: Disk>(
+    alloc: Global,
+    disk: &mut D,
+    listed: &ListedTable<'_>,
+    table: &mut OpenTable,
+    runs: usize,
+    state: &mut State,
+) -> Result<u64, OpenErr>
+    requires bounds { HasWholeBounds listed.now.file.now }
+    requires opened { IfSome (contents_told (D.told disk.old)) (λ d. IsListed d (listed_of listed.now) table.old) }
+    requires sequences { HasSequences table.old }
+    requires spare { runs + 1 ≤ state.old.spare }
+    ensures table { MatchResult result (AddsTable (contents_told (D.told disk.old)) (listed_of listed.now) state.old.state state.new.state)
+        (λ why. IfSome (contents_told (D.told disk.old)) (λ d. RefusesAs (table_file (get d) (listed_of listed.now)) why)) }
+    ensures spare { IfOk result (λ _. runs ≤ state.new.spare) }
+    ensures faults { Counts (open_failed result) (D.faults disk.old) (D.faults disk.new) }
+    ensures left { IsLeft (D.told disk.old) (D.told disk.new) }
+{
+    match read_run(alloc, disk, listed.file, table) {
+        Ok(run) => {
+            let ranges = table.table().ranges.as_slice();
+            let top = greatest_with(greatest_sequence(run.as_slice()), ranges);
+            state.add_run(run);
+            match add_ranges(alloc, listed, ranges, runs, state) {
+                Ok(()) => Ok(top),
+                Err(_) => Err(OpenErr::Memory),
+            }
+        }
+        Err(why) => Err(why),
+    }
+}
