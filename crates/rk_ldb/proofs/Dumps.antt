@@ -1,5 +1,5 @@
 -- What is written of a file that is there, or isn't, and of words.
-use Rattle.std.proofs.Common.{◌≡◌, ℕ, Bool, List, [], ◌∷◌, length, Option, Some, None, refl, sym, subst}
+use Rattle.std.proofs.Common.{◌≡◌, ℕ, Bool, List, [], ◌∷◌, length, Option, Some, None, refl, sym, ap, subst, ◌∙◌}
 use Rattle.std.specs.Prelude.{IfSome, option_map}
 use Rattle.std.specs.FinMap.{get}
 use Rattle.rk_bytes.specs.Model.DiskImages.{Directory, Told, contents, contents_told}
@@ -7,11 +7,13 @@ use Rattle.rk_bytes.specs.Model.FileNames.{log_name, table_name}
 use Rattle.rk_bytes.specs.Model.LogItems.{log_items}
 use Rattle.rk_bytes.specs.declared.model.status.Status.TheVariants.{Usage}
 use Rattle.rk_bytes.specs.declared.model.command.SstPart.{SstPart}
-use Rattle.rk_bytes.specs.Model.Grammar.{Command, families, manifest_dump, dump_wal, sst}
+use Rattle.rk_bytes.specs.declared.model.command.How.TheVariants.{Normal}
+use Rattle.rk_bytes.specs.declared.model.wal.Mode.{Mode}
+use Rattle.rk_bytes.specs.Model.Grammar.{KeyWord, Command, scan, get as get_key, check, families, manifest_dump, dump_wal, sst, command_of}
 use Rattle.rk_bytes.specs.Model.Lines.{usage_line}
-use Rattle.rk_bytes.specs.Model.Output.{Output, dump_wal_output, manifest_dump_output, families_output, sst_output, command_output, written, refused}
+use Rattle.rk_bytes.specs.Model.Output.{Output, state_of, scan_output, get_output, check_output, dump_wal_output, manifest_dump_output, families_output, sst_output, command_output, written, refused}
 use Rattle.rk_ldb.specs.declared.items.Form.{Form}
-use Rattle.rk_ldb.specs.Built.{built_command, output_of, output_so_far}
+use Rattle.rk_ldb.specs.Built.{built, output_of, output_so_far}
 use Rattle.rk_ldb.specs.Wrote.{dump_lines, file_output}
 use Rattle.rk_disk.specs.Parts.{OfFile}
 
@@ -63,13 +65,38 @@ unfolding command_output
 output_of_table None command n part hex P is h = tt
 output_of_table (Some d) command n part hex P is h = subst (λ command. P (output_of command d)) (sym is) h
 
-pub lines_of_command : (o : Option Directory) (words : List (List ℕ)) (command : Command) (P : Output → Type 0) → ◌≡◌ {A = Option Command} (Some command) (built_command words)
+pub output_of_scan : (o : Option Directory) (command : Command) (named : Option (List ℕ)) (mode : Mode) (from to : Option KeyWord) (hex : Bool) (P : Output → Type 0) → command ≡ scan named (Normal mode) from to hex
+    → IfSome o (λ d. P (scan_output named from to hex (state_of (Normal mode) d))) → IfSome o (λ d. P (output_of command d))
+unfolding command_output
+output_of_scan None command named mode from to hex P is h = tt
+output_of_scan (Some d) command named mode from to hex P is h = subst (λ command. P (output_of command d)) (sym is) h
+
+pub output_of_get : (o : Option Directory) (command : Command) (key : KeyWord) (named : Option (List ℕ)) (mode : Mode) (hex : Bool) (P : Output → Type 0) → command ≡ get_key key named (Normal mode) hex
+    → IfSome o (λ d. P (get_output key named hex (state_of (Normal mode) d))) → IfSome o (λ d. P (output_of command d))
+unfolding command_output
+output_of_get None command key named mode hex P is h = tt
+output_of_get (Some d) command key named mode hex P is h = subst (λ command. P (output_of command d)) (sym is) h
+
+pub output_of_check : (o : Option Directory) (command : Command) (mode : Mode) (P : Output → Type 0) → command ≡ check (Normal mode)
+    → IfSome o (λ d. P (check_output (Normal mode) d)) → IfSome o (λ d. P (output_of command d))
+unfolding command_output
+output_of_check None command mode P is h = tt
+output_of_check (Some d) command mode P is h = subst (λ command. P (output_of command d)) (sym is) h
+
+-- what is written of a command that the program doesn't have
+pub output_of_none : (o : Option Directory) (command other : Command) (P : Output → Type 0) → command ≡ other → built (Some other) ≡ None → P (record { lines = usage_line ∷ []; status = Usage })
+    → IfSome o (λ d. P (output_of command d))
+unfolding command_output
+output_of_none None command other P is lacks h = tt
+output_of_none (Some d) command other P is lacks h = subst (λ built. P (command_output built d)) (sym (ap (λ command. built (Some command)) is ∙ lacks)) h
+
+pub lines_of_command : (o : Option Directory) (words : List (List ℕ)) (command : Command) (P : Output → Type 0) → ◌≡◌ {A = Option Command} (Some command) (command_of words)
     → IfSome o (λ d. P (output_of command d)) → IfSome o (λ d. P (output_so_far words d))
 lines_of_command None words command P is h = tt
-lines_of_command (Some d) words command P is h = subst (λ command. P (command_output command d)) is h
+lines_of_command (Some d) words command P is h = subst (λ command. P (command_output (built command) d)) is h
 
-pub lines_of_usage : (o : Option Directory) (words : List (List ℕ)) (P : Output → Type 0) → ◌≡◌ {A = Option Command} None (built_command words) → P (record { lines = usage_line ∷ []; status = Usage })
+pub lines_of_usage : (o : Option Directory) (words : List (List ℕ)) (P : Output → Type 0) → ◌≡◌ {A = Option Command} None (command_of words) → P (record { lines = usage_line ∷ []; status = Usage })
     → IfSome o (λ d. P (output_so_far words d))
 unfolding command_output
 lines_of_usage None words P is h = tt
-lines_of_usage (Some d) words P is h = subst (λ command. P (command_output command d)) is h
+lines_of_usage (Some d) words P is h = subst (λ command. P (command_output (built command) d)) is h

@@ -1,9 +1,11 @@
 mod BatchLines
 mod Blocks
 mod CommandWords
+mod CountLemmas
 mod Dumping
 mod Dumps
 mod EditLines
+mod Endings
 mod Faults
 mod ItemLines
 mod ManifestDumps
@@ -13,3 +15,4 @@ mod Scans
 mod ShownLemmas
 mod Tables
 mod Taken
+mod ViewLemmas

@@ -12,11 +12,18 @@ IsAnswer Usage = Unit {0}
 IsAnswer NotFound = Unit {0}
 IsAnswer _ = ⊥
 
--- the same, of words that spell a command that the program has
+-- the same, of words that spell a command that the program has, but for `get`
 abbrev pub IsCommandAnswer : Status → Type 0
 IsCommandAnswer Done = Unit {0}
 IsCommandAnswer Refused = Unit {0}
 IsCommandAnswer _ = ⊥
+
+-- the same of a `get`, whose key may show nothing
+abbrev pub IsGetAnswer : Status → Type 0
+IsGetAnswer Done = Unit {0}
+IsGetAnswer Refused = Unit {0}
+IsGetAnswer NotFound = Unit {0}
+IsGetAnswer _ = ⊥
 
 -- Whole lines were taken, and then the line of a fault, of which only so many bytes where this is their cause.
 pub record EndsInFault (before after : Option (List ℕ)) (lines : List (List ℕ)) (fault_line : List ℕ) (cause : ℕ → Type 0) : Type 0 where

@@ -3,14 +3,18 @@ use Rattle.std.specs.Prelude.{ℕ, Bool, false, List, [], Option, Some, None, op
 use Rattle.rk_bytes.specs.declared.model.command.SstPart.{SstPart}
 use Rattle.rk_bytes.specs.declared.model.command.SstPart.TheVariants.{Check}
 use Rattle.rk_bytes.specs.Model.DiskImages.{Directory}
-use Rattle.rk_bytes.specs.Model.Grammar.{Command, families, manifest_dump, dump_wal, sst, hex_of, command_of}
+use Rattle.rk_bytes.specs.declared.model.command.How.TheVariants.{Normal}
+use Rattle.rk_bytes.specs.Model.Grammar.{Command, scan, get, families, manifest_dump, dump_wal, check, sst, hex_of, command_of}
 use Rattle.rk_bytes.specs.Model.Output.{Output, command_output}
 
 -- the command, where the program has it
 abbrev pub built : Option Command → Option Command
+built (Some (scan named (Normal mode) from to hex)) = Some (scan named (Normal mode) from to hex)
+built (Some (get key named (Normal mode) hex)) = Some (get key named (Normal mode) hex)
 built (Some families) = Some families
 built (Some (manifest_dump hex)) = Some (manifest_dump hex)
 built (Some (dump_wal n hex)) = Some (dump_wal n hex)
+built (Some (check (Normal mode))) = Some (check (Normal mode))
 built (Some (sst n part hex)) = Some (sst n part hex)
 built _ = None
 
@@ -18,9 +22,14 @@ built _ = None
 abbrev pub built_command : List (List ℕ) → Option Command
 built_command words = built (command_of words)
 
--- what a command writes over a directory
+-- The command is a `get`.
+abbrev pub IsGet : Option Command → Type 0
+IsGet (Some (get key named opening hex)) = Unit {0}
+IsGet _ = ⊥
+
+-- what a command writes over a directory, or the usage line where the program doesn't have it
 abbrev pub output_of : Command → Directory → Output
-output_of command d = command_output (Some command) d
+output_of command d = command_output (built (Some command)) d
 
 -- what the program writes for these words over the directory
 abbrev pub output_so_far : List (List ℕ) → Directory → Output

@@ -1,7 +1,10 @@
 pub mod Answers
 pub mod Built
 pub mod Commands
+pub mod Ends
+pub mod Keys
 pub mod Refusals
 pub mod Stops
 pub mod Tables
+pub mod Views
 pub mod Wrote

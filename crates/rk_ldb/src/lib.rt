@@ -2,20 +2,27 @@
 #![tactic(auto)]
 
 mod batch;
+mod check;
 mod command;
 mod dump;
 mod edit;
 mod families;
+mod get;
 mod items;
+mod keys;
 mod lines;
 mod log_dump;
 mod manifest_dump;
 mod program;
 mod refusal;
+mod scan;
 mod shown;
 mod sst;
 mod stop;
+mod words;
 
+pub use command::{Command, read_command};
+pub use keys::KeyWord;
 pub use program::{end_after_want_of_memory, run};
 pub use rk_bytes::model::Status;
 

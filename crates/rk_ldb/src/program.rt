@@ -1,21 +1,25 @@
-ghost use Rattle.std.specs.Prelude.{◌≡◌, ℕ, ◌+◌, ◌^◌, ◌<◌, ◌≤◌, ◌⊎◌, ◌∷◌, [], Ok, IfOk, OnOk, IsErrOf, IfSome, IsNone, length, take};
+ghost use Rattle.std.specs.Prelude.{◌≡◌, ℕ, ◌+◌, ◌^◌, ◌<◌, ◌≤◌, ◌⊎◌, ◌∷◌, [], Ok, Some, IfOk, OnOk, IsErrOf, IfSome, IsNone, length, take};
 ghost use Rattle.rk_bytes.specs.Model.DiskImages.{IsLeft, Rose, contents_told};
 ghost use Rattle.rk_bytes.specs.Model.Lines.{usage_line, disk_fault_line, memory_fault_line};
 ghost use Rattle.rk_bytes.specs.Model.Output.{text, Took, TookLines, TookFront};
-ghost use Rattle.rk_ldb.specs.Answers.{IsAnswer, IsCommandAnswer, EndsInFault, TookPart};
-ghost use Rattle.rk_ldb.specs.Built.{built_command, output_of, output_so_far};
+ghost use Rattle.rk_ldb.specs.Answers.{IsAnswer, IsGetAnswer, EndsInFault, TookPart};
+ghost use Rattle.rk_ldb.specs.Ends.{EndsAs};
+ghost use Rattle.rk_ldb.specs.Built.{built, built_command, IsGet, output_of, output_so_far};
 ghost use Rattle.rk_ldb.specs.Commands.{told};
 ghost use Rattle.rk_ldb.specs.Stops.{TookUpTo, DiskCounts, SinkCounts, OutputStops};
 
+use crate::check::check;
 use crate::command::{Command, read_command};
 use crate::families::families;
+use crate::get::get;
 use crate::lines::{DISK_FAULT_LINE, MEMORY_FAULT_LINE, USAGE_LINE, write_line};
 use crate::log_dump::dump_wal;
 use crate::manifest_dump::manifest_dump;
+use crate::scan::scan;
 use crate::sst::sst;
 use crate::stop::Stop;
 use rk_bytes::Text;
-use rk_bytes::model::Status;
+use rk_bytes::model::{How, Status};
 use rk_disk::{Disk, Sink, SinkErr};
 use std::alloc::Global;
 
@@ -30,6 +34,9 @@ pub fn run<D: Disk, S: Sink>(alloc: Global, words: &[Text], disk: &mut D, out: &
     // The words alone decide whether the answer is the usage line, whatever the disk tells.
     ensures usage { result ≡ Status.Usage → IsNone (built_command words.now) × Took (S.taken out.old) (S.taken out.new) usage_line }
     ensures no_usage { IsNone (built_command words.now) → (result ≡ Status.Usage) ⊎ ((result ≡ Status.SinkFault) ⊎ (result ≡ Status.Memory)) }
+
+    // Only a `get` finds nothing. Where the contents are told, nothing is shown of its key.
+    ensures not_found { result ≡ Status.NotFound → IsGet (built_command words.now) }
 
     // An answer hides no fault. A fault has a cause, and the first one counts.
     ensures no_fault { IsAnswer result → (D.faults disk.new ≡ D.faults disk.old) × (S.faults out.new ≡ S.faults out.old) }
@@ -67,7 +74,8 @@ fn answer<D: Disk, S: Sink>(
 ) -> Result<Status, Stop>
     ensures lines { IfSome (contents_told (D.told disk.old)) (λ d. TookUpTo (S.taken out.old) (S.taken out.new) (output_so_far words.now d).lines result) }
     ensures status { IfSome (contents_told (D.told disk.old)) (λ d. IfOk result (λ status. status ≡ (output_so_far words.now d).status)) }
-    ensures usage { IfOk result (λ status. IsCommandAnswer status ⊎ ((status ≡ Status.Usage) × (IsNone (built_command words.now) × Took (S.taken out.old) (S.taken out.new) usage_line))) }
+    ensures usage { IfOk result (λ status. IsGetAnswer status ⊎ ((status ≡ Status.Usage) × (IsNone (built_command words.now) × Took (S.taken out.old) (S.taken out.new) usage_line))) }
+    ensures not_found { IfOk result (λ status. status ≡ Status.NotFound → IsGet (built_command words.now)) }
     ensures no_usage { IsNone (built_command words.now) → (result ≡ Ok Status.Usage) ⊎ (IsErrOf result Stop.Sink ⊎ IsErrOf result Stop.Memory) }
     ensures disk_count { DiskCounts (D.faults disk.old) (D.faults disk.new) result }
     ensures output_count { SinkCounts (S.faults out.old) (S.faults out.new) result }
@@ -79,25 +87,50 @@ fn answer<D: Disk, S: Sink>(
     }
 }
 
-/// Writes the lines of a command.
+/// Writes the lines of a command, or the usage line for one that the program doesn't have.
 fn write_answer<D: Disk, S: Sink>(
     alloc: Global,
-    command: Command,
+    command: Command<'_>,
     disk: &mut D,
     out: &mut S,
 ) -> Result<Status, Stop>
-    ensures lines { IfSome (contents_told (D.told disk.old)) (λ d. TookUpTo (S.taken out.old) (S.taken out.new) (output_of (told command) d).lines result) }
-    ensures status { IfSome (contents_told (D.told disk.old)) (λ d. IfOk result (λ status. status ≡ (output_of (told command) d).status)) }
-    ensures answers { IfOk result IsCommandAnswer }
+    ensures lines { IfSome (contents_told (D.told disk.old)) (λ d. TookUpTo (S.taken out.old) (S.taken out.new) (output_of (told command.entry) d).lines result) }
+    ensures status { IfSome (contents_told (D.told disk.old)) (λ d. IfOk result (λ status. status ≡ (output_of (told command.entry) d).status)) }
+    ensures ends { EndsAs (built (Some (told command.entry))) (S.taken out.old) (S.taken out.new) result }
     ensures disk_count { DiskCounts (D.faults disk.old) (D.faults disk.new) result }
     ensures output_count { SinkCounts (S.faults out.old) (S.faults out.new) result }
     ensures left { IsLeft (D.told disk.old) (D.told disk.new) }
 {
     match command {
+        Command::Scan {
+            family,
+            how,
+            from,
+            to,
+            hex,
+        } => match how {
+            How::Normal(mode) => scan(alloc, family, mode, from, to, hex, disk, out),
+            How::Best => answer_with_usage(out),
+        },
+        Command::Get {
+            key,
+            family,
+            how,
+            hex,
+        } => match how {
+            How::Normal(mode) => get(alloc, key, family, mode, hex, disk, out),
+            How::Best => answer_with_usage(out),
+        },
         Command::Families => families(alloc, disk, out),
         Command::ManifestDump { hex } => manifest_dump(alloc, hex, disk, out),
         Command::DumpWal { number, hex } => dump_wal(alloc, number, hex, disk, out),
+        Command::Check { how } => match how {
+            How::Normal(mode) => check(alloc, mode, disk, out),
+            How::Best => answer_with_usage(out),
+        },
+        Command::Repair => answer_with_usage(out),
         Command::Sst { number, part, hex } => sst(alloc, number, part, hex, disk, out),
+        Command::Drill { number: _ } => answer_with_usage(out),
     }
 }
 

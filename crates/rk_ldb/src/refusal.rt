@@ -1,6 +1,6 @@
 //! Why a command is refused, and the line that says so.
 ghost use Rattle.std.specs.Prelude.{◌≡◌, ◌∷◌, [], IfOk, OnOk};
-ghost use Rattle.rk_bytes.specs.Model.Lines.{refusal_line};
+ghost use Rattle.rk_bytes.specs.Model.Lines.{refusal_line, no_family_words};
 ghost use Rattle.rk_ldb.specs.Refusals.{words_of, open_stop};
 ghost use Rattle.rk_ldb.specs.Stops.{TookUpTo, OutputStops};
 
@@ -43,6 +43,22 @@ pub(crate) fn refuse<S: Sink>(alloc: Global, why: Refusal, out: &mut S) -> Resul
 {
     let mut line = Line::new(alloc);
     set_refusal(&mut line, why)?;
+    write_line(line.as_slice(), out)?;
+    Ok(Status::Refused)
+}
+
+/// Writes the line that refuses where no live family has this name.
+pub(crate) fn refuse_family<S: Sink>(
+    alloc: Global,
+    name: &[u8],
+    out: &mut S,
+) -> Result<Status, Stop>
+    ensures lines { TookUpTo (S.taken out.old) (S.taken out.new) (refusal_line (no_family_words name.now) ∷ []) result }
+    ensures status { IfOk result (λ status. status ≡ Status.Refused) }
+    ensures counts { OutputStops (S.faults out.old) (S.faults out.new) result }
+{
+    let mut line = Line::new(alloc);
+    line.set_no_family(name)?;
     write_line(line.as_slice(), out)?;
     Ok(Status::Refused)
 }

@@ -3,7 +3,7 @@ use Rattle.std.specs.Prelude.{◌<◌, ◌^◌, decimal}
 use Rattle.std.proofs.lemmas.Bool.{false≢true}
 use Rattle.rk_ldb.proofs.CommandWords.{number_of-read}
 use Rattle.rk_ldb.proofs.NumberWords.{BeginsOtherwise, decimal_begins, parsed_number}
-use Rattle.rk_ldb.proofs.command.read_number.Goals as goal
+use Rattle.rk_ldb.proofs.words.read_number.Goals as goal
 
 pub returns-then-begins_otherwise : goal.returns-then-begins_otherwise
 returns-then-begins_otherwise c =
