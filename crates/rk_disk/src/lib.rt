@@ -2,6 +2,7 @@
 //! of a file, whole or a piece of it.
 #![tactic(auto)]
 
+mod calm_disk;
 mod disk;
 mod files;
 mod lying_disk;
@@ -11,6 +12,7 @@ mod plan;
 mod read;
 mod sink;
 
+pub use calm_disk::CalmDisk;
 pub use disk::{Disk, DiskErr};
 pub use lying_disk::LyingDisk;
 pub use mem_disk::MemDisk;

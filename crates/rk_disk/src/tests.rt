@@ -40,6 +40,24 @@ fn a_file_is_put_and_replaced(rt: HostRuntime) -> Result<(), Fail> {
 }
 
 #[test]
+fn a_calm_disk_tells_what_was_put(rt: HostRuntime) -> Result<(), Fail> {
+    let mut disk = CalmDisk::new(rt.alloc())?;
+    disk.put_file("CURRENT", b"old")?;
+    disk.put_file("CURRENT", b"newer")?;
+    assert_eq!(rt; disk.file("CURRENT"), Some(b"newer".as_slice()));
+    assert_eq!(rt; size_of_file(&mut disk, "CURRENT"), Ok(Some(5)));
+    assert_eq!(rt; size_of_file(&mut disk, "LOCK"), Ok(None));
+    let mut buf = [b'.'; 4];
+    assert_eq!(rt; read_at(&mut disk, "CURRENT", 2, &mut buf), Ok(3));
+    assert_eq!(rt; buf, *b"wer.");
+    let Ok(names) = names_of(rt.alloc(), &mut disk) else {
+        return Err(Fail::new("the names aren't told"));
+    };
+    assert_eq!(rt; names.as_slice().len(), 1);
+    Ok(())
+}
+
+#[test]
 fn names_rise(rt: HostRuntime) -> Result<(), Fail> {
     let alloc = rt.alloc();
     let mut disk = MemDisk::new(alloc)?;

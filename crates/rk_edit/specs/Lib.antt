@@ -1,3 +1,4 @@
 pub mod Before
 pub mod Fields
 pub mod Read
+pub mod Writing

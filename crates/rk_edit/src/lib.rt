@@ -9,10 +9,12 @@ mod tag;
 mod tracked;
 mod value;
 mod view;
+mod write;
 
 pub use fields::{AddFile, Field};
 pub use rk_bytes::model::{EditFault, Seqs};
 pub use view::EditView;
+pub use write::write_field;
 
 #[cfg(test)]
 mod tests;

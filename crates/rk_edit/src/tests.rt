@@ -1,5 +1,6 @@
 // Expected bytes and fields were computed by a program of another language.
 use super::*;
+use rk_bytes::Bytes;
 use std::process::Abort;
 use std::test::Fail;
 
@@ -220,4 +221,41 @@ fn the_first_fault_is_told(rt: HostRuntime) -> Result<(), Fail> {
         }
     }
     Ok(())
+}
+
+/// What is written of one field.
+fn expect_written<R: Abort + AllocGlobal>(
+    rt: &R,
+    field: Field<'_>,
+    wanted: &[u8],
+) -> Result<(), Fail> {
+    let mut out = Bytes::new(rt.alloc());
+    write_field(rt.alloc(), &mut out, &field)?;
+    assert_eq!(rt; out.as_slice(), wanted);
+    Ok(())
+}
+
+#[test]
+fn fields_are_written(rt: HostRuntime) -> Result<(), Fail> {
+    let bound = b"a\x01\x01\0\0\0\0\0\0";
+    let file = AddFile {
+        level: 0,
+        number: 4,
+        size: 1000,
+        smallest: bound,
+        largest: bound,
+        seqs: Some(Seqs {
+            least: 1,
+            greatest: 1,
+        }),
+    };
+    let bytes = b"g\0\x04\xE8\x07\x09a\x01\x01\0\0\0\0\0\0\x09a\x01\x01\0\0\0\0\0\0\x01\x01\x01";
+    expect_written(&rt, Field::AddFile(file), bytes)?;
+    let tracked = Field::WalAdd {
+        log: 3,
+        synced: Some(48),
+    };
+    expect_written(&rt, tracked, b"\x87@\x04\x03\x020\x01")?;
+    expect_written(&rt, Field::WalDelete(4), b"\x88@\x01\x04")?;
+    expect_written(&rt, Field::Group(300), b"\xAC\x02\xAC\x02")
 }

@@ -33,3 +33,4 @@ mod SalvageSteps
 mod UsableUnits
 mod VersionOrder
 mod VersionSteps
+mod WrittenEdits

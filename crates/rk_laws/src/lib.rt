@@ -30,7 +30,7 @@ pub use descent::{descends_from_itself, descent_goes_through, ready_after_a_stop
 pub use disk_images::{
     contents_at_rest, image_of_an_image, images_of_synced_names, one_image_at_rest,
 };
-pub use edit::one_edit;
+pub use edit::{one_edit, written_edit};
 pub use internal_key::{key_order, key_round_trip};
 pub use key_view::{nothing_hidden, rows_are_what_is_shown, rows_rise};
 pub use log_items::one_parting;
