@@ -3,3 +3,4 @@ mod EntryLemmas
 mod ReadLemmas
 mod StepLemmas
 mod WalkLemmas
+mod TestedLemmas

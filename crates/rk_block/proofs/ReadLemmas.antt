@@ -178,17 +178,20 @@ hands_out part place raw len r some reads longer fits =
 abbrev pub rest_from : List ℕ → ℕ → List ℕ
 rest_from part place = take (length part - place) (drop place part)
 
-some_left : (part : List ℕ) (place : ℕ) (test : Bool) → test ≡ (length (rest_from part place) == 0) → test ≡ false → 0 < length (drop place part)
+pub some_left : (part : List ℕ) (place : ℕ) (test : Bool) → test ≡ (length (rest_from part place) == 0) → test ≡ false → 0 < length (drop place part)
 some_left part place test is passed = by (length (drop place part)) (sym (is ∙ ap (λ (rest : List ℕ). length rest == 0) (take_rest part place)) ∙ passed)
   where
     by : (len : ℕ) → (len == 0) ≡ false → 0 < len
     by zero e = absurd (eqb-false 0 0 e refl)
     by (suc len) e = omega arith
 
+pub none_left : (part : List ℕ) (place : ℕ) (test : Bool) → test ≡ (length (rest_from part place) == 0) → test ≡ true → length (drop place part) ≡ 0
+none_left part place test is passed = eqb-true (length (drop place part)) 0 (sym (is ∙ ap (λ (rest : List ℕ). length rest == 0) (take_rest part place)) ∙ passed)
+
 -- no entry is left where no byte is
 pub next_none : (part : List ℕ) (place : ℕ) (test : Bool) → IsReadTo part place → test ≡ (length (rest_from part place) == 0) → test ≡ true → (seen_from place (entries_or_none (entries_in part))).left ≡ []
 next_none part place test r is passed =
-    seen_at_end part place r (eqb-true (length (drop place part)) 0 (sym (is ∙ ap (λ (rest : List ℕ). length rest == 0) (take_rest part place)) ∙ passed))
+    seen_at_end part place r (none_left part place test is passed)
 
 pub next_out : (part : List ℕ) (place : ℕ) (test : Bool) (raw : RawEntry) (len : ℕ) → IsReadTo part place → test ≡ (length (rest_from part place) == 0) → test ≡ false → ReadsHere (rest_from part place) raw len → 3 ≤ len → len ≤ length (rest_from part place) → HandsOut part place raw len
 next_out part place test raw len r is passed reads longer fits =
@@ -206,7 +209,7 @@ pub faulty_parts : (block : List ℕ) (why : BlockFault) → Err why ≡ block_p
 unfolding block_entries
 faulty_parts block why e = ap (λ (parts : Result (List ℕ × List ℕ) BlockFault). with_fault (λ fault. fault) parts >>= λ parts. entries_in parts.0 >>= λ entries. cond (right_restarts entries parts.1) (Ok entries) (Err BadRestarts)) e
 
-parted : (block : List ℕ) (parts : List ℕ × List ℕ) → Ok parts ≡ block_parts block → (entries_in parts.0 >>= λ entries. cond (right_restarts entries parts.1) (Ok entries) (Err BadRestarts)) ≡ block_entries block
+pub parted : (block : List ℕ) (parts : List ℕ × List ℕ) → Ok parts ≡ block_parts block → (entries_in parts.0 >>= λ entries. cond (right_restarts entries parts.1) (Ok entries) (Err BadRestarts)) ≡ block_entries block
 unfolding block_entries
 parted block parts e = ap (λ (parts : Result (List ℕ × List ℕ) BlockFault). with_fault (λ fault. fault) parts >>= λ parts. entries_in parts.0 >>= λ entries. cond (right_restarts entries parts.1) (Ok entries) (Err BadRestarts)) e
 

@@ -14,9 +14,10 @@ use Rattle.rk_block.specs.Parts.{entries_in, restarts_in}
 use Rattle.rk_block.specs.Restarts.{RestartsSeen, starts_at_zero, restarts_of, restarts_after, are_met}
 use Rattle.rk_block.specs.Raw.{entry_of, entry_read, read_or_none, entry_or_none}
 use Rattle.rk_block.specs.Read.{AreBetween, last_of}
+use Rattle.rk_block.specs.Walked.{IsWalked}
 use Rattle.rk_bytes.proofs.Callers.Readings.{both_steps, first_step}
 use Rattle.rk_block.proofs.StepLemmas.{first_fault}
-use Rattle.rk_block.proofs.Callers.RestartLemmas.{offsets_left, offsets_left-push, AreBetween-ordered, AreBetween-push, has_entries, right_restarts-walk}
+use Rattle.rk_block.proofs.Callers.RestartLemmas.{offsets_left-push, AreBetween-ordered, AreBetween-push, has_entries, right_restarts-walk}
 
 -- what reads is read
 some_read : {A : Type 0} (r : Read A) (one : A × List ℕ) → Some one ≡ read_or_none r → r ≡ Ok one
@@ -67,18 +68,6 @@ entries_after-some next room before [] some e = omega arith
 entries_after-some next zero before (b ∷ bytes) some e = both_steps (next before []) _ [] e (λ one read e1. cc)
 entries_after-some next (suc room) before (b ∷ bytes) some e =
     both_steps (next before (b ∷ bytes)) _ [] e (λ one read e1. both_steps (entries_after next room one.0 one.1) _ [] e1 (λ entries more e2. cc))
-
--- The entries up to a place were read, of which the last has a key of so many bytes, and these offsets are left.
-pub record IsWalked (part offsets : List ℕ) (place key_len : ℕ) (now : RestartsSeen) : Type 0 where
-  pub front : List (Entry (List ℕ))
-  pub room : ℕ
-  pub within : place ≤ length part
-  pub enough : length part ≤ place + room
-  pub passed : AreBetween 0 place front
-  pub short : key_len ≤ place
-  pub key_is : key_len ≡ length (last_of front (no_entry [])).key
-  pub left : now ≡ record { from_zero = starts_at_zero offsets; left = offsets_left front offsets }
-  pub whole : entries_in part ≡ (entries_after (next_entry (length part)) room (last_of front (no_entry [])) (drop place part) >>= λ more. Ok (front ++ more))
 
 whole_start : {F : Type 0} (r : Result (List (Entry (List ℕ))) F) → r ≡ (r >>= λ more. Ok ([] ++ more))
 whole_start (Ok entries) = refl

@@ -3,3 +3,5 @@ pub mod Raw
 pub mod Read
 pub mod Restarts
 pub mod Seen
+pub mod Tested
+pub mod Walked

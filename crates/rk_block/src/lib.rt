@@ -6,6 +6,7 @@ mod entry;
 mod key_buf;
 mod part;
 mod restarts;
+mod tested;
 mod view;
 
 pub use entry::RawEntry;
@@ -13,6 +14,7 @@ pub use key_buf::KeyBuf;
 pub use part::{BlockParts, block_parts};
 pub use restarts::Restarts;
 pub use rk_bytes::model::BlockFault;
+pub use tested::TestedEntries;
 pub use view::{BlockView, Entries};
 
 #[cfg(test)]

@@ -42,6 +42,16 @@ impl<'a> Restarts<'a> {
         }
     }
 
+    /// The same offsets once more.
+    pub(crate) fn again(&self) -> Restarts<'a>
+        ensures { result ≡ self.now }
+    {
+        Restarts {
+            from_zero: self.from_zero,
+            left: self.left,
+        }
+    }
+
     /// Passes an entry at this place whose key shares so many bytes with the key before it. Entries are
     /// passed in their order. Takes no memory.
     pub fn pass(&mut self, place: usize, shared: usize)

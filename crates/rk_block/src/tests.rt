@@ -132,3 +132,49 @@ fn an_entry_may_not_pass_the_end(rt: HostRuntime) -> Result<(), Fail> {
     }
     Ok(())
 }
+
+// Hands out up to eight entries, and gives how many there are, with how many bytes of their keys they share.
+fn counted(block: &[u8]) -> Result<(u32, usize), BlockFault> {
+    let mut entries = TestedEntries::new(block)?;
+    let mut shared = 0usize;
+    for count in 0..8 {
+        match entries.next_entry()? {
+            Some(entry) => shared = shared.saturating_add(entry.shared),
+            None => return Ok((count, shared)),
+        }
+    }
+    Ok((8, shared))
+}
+
+// What the first call says whose entry isn't handed out, once two entries were.
+fn fault_after_two(block: &[u8]) -> Result<(), BlockFault> {
+    let mut entries = TestedEntries::new(block)?;
+    entries.next_entry()?;
+    entries.next_entry()?;
+    entries.test_rest()
+}
+
+#[test]
+fn entries_are_tested_in_turn(rt: HostRuntime) -> Result<(), Fail> {
+    let good =
+        b"\0\x05\x01apple1\x04\x01\x02y22\0\x06\0banana\x83\x80\0\x01\x03dxyz\0\0\0\0\x0F\0\0\0\x02\0\0\0";
+    assert_eq!(rt; counted(good), Ok((4, 7)));
+    assert_eq!(rt; fault_after_two(good), Ok(()));
+    // The second restart is at the entry that shares four bytes.
+    let wrong_restart =
+        b"\0\x05\x01apple1\x04\x01\x02y22\0\x06\0banana\x83\x80\0\x01\x03dxyz\0\0\0\0\x09\0\0\0\x02\0\0\0";
+    assert_eq!(rt; counted(wrong_restart), Err(BlockFault::BadRestarts));
+    assert_eq!(rt;
+        fault_after_two(wrong_restart),
+        Err(BlockFault::BadRestarts)
+    );
+    // The fourth entry shares seven bytes with a key of six.
+    let shares_too_many =
+        b"\0\x05\x01apple1\x04\x01\x02y22\0\x06\0banana\x87\x80\0\x01\x03dxyz\0\0\0\0\x0F\0\0\0\x02\0\0\0";
+    assert_eq!(rt;
+        fault_after_two(shares_too_many),
+        Err(BlockFault::BadEntry(24))
+    );
+    assert_eq!(rt; counted(b"\0\0\0\0"), Err(BlockFault::BadRestarts));
+    Ok(())
+}

@@ -16,11 +16,7 @@ use Rattle.rk_bytes.specs.Model.TableStatus.{damaged, DataEntry, block_status, i
 use Rattle.rk_bytes.proofs.Callers.FixedNumbers.{fixed_bound, fixed_of-little_endian}
 use Rattle.rk_bytes.proofs.Callers.Readings.{both_steps, with_fault_ok, passed, taken, found_passes, bytes_after}
 use Rattle.rk_table.specs.Walks.{block_told}
-use Rattle.rk_sst.proofs.ByteLemmas.{KeysAreBytes, keys_bytes}
-
-little_endian-below : (bytes : List ℕ) → AreBytes bytes → little_endian bytes < fixed_bound (length bytes)
-little_endian-below [] are = omega arith
-little_endian-below (b ∷ bytes) are = let later = little_endian-below bytes are.1 in let first = are.0 in omega arith
+use Rattle.rk_table.proofs.Callers.KeyBytes.{KeysAreBytes, keys_bytes, little_endian-below}
 
 -- what is made of a key that reads
 parts_made : (o : Option Kind) (user : List ℕ) (sequence : ℕ) (fault : KeyFault) (parts : KeyParts) → ok_or (option_map (λ kind. record { user = user; sequence = sequence; kind = kind }) o) fault ≡ Ok parts → (o ≡ Some parts.kind) × (parts.user ≡ user) × (parts.sequence ≡ sequence)

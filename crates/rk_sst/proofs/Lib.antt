@@ -1,6 +1,5 @@
-mod ByteLemmas
 mod KeyLemmas
 mod RisingLemmas
-mod LeftLemmas
 mod TakenLemmas
 mod OpenLemmas
+mod LineLemmas

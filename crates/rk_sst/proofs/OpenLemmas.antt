@@ -19,7 +19,7 @@ use Rattle.rk_sst.specs.Seen.{OpenSeen}
 use Rattle.rk_sst.specs.Taken.{TakesNext}
 use Rattle.rk_sst.specs.Rising.{last_given}
 use Rattle.rk_sst.specs.Opened.{records_left, IsOpen, HasLength, OpensGood, GivesNext}
-use Rattle.rk_sst.proofs.LeftLemmas.{good_entries}
+use Rattle.rk_table.proofs.Callers.GoodTables.{good_entries}
 
 -- where a file has a size it is there
 file_there : (file : Option (List ℕ)) (len : ℕ) → Some len ≡ option_map length file → (bytes : List ℕ) × (file ≡ Some bytes)

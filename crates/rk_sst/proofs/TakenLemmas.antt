@@ -19,7 +19,7 @@ use Rattle.rk_cache.specs.Answers.{table_in, block_in, Gives}
 use Rattle.rk_sst.specs.Errors.{block_err}
 use Rattle.rk_sst.specs.Taken.{ComeFirst, TakesNext}
 use Rattle.rk_sst.specs.Rising.{last_given}
-use Rattle.rk_sst.proofs.LeftLemmas.{next_block}
+use Rattle.rk_table.proofs.Callers.GoodTables.{block_at}
 use Rattle.rk_sst.proofs.KeyLemmas.{block_entries_are}
 use Rattle.rk_sst.proofs.RisingLemmas.{same_last}
 
@@ -33,7 +33,7 @@ entry_there (at ∷ index) (suc n) less = entry_there index n (omega arith)
 pub come_first : (bytes : List ℕ) (table : TableRef) (number : ℕ) (before : Option (List ℕ)) (at : IndexEntry) (block : List ℕ) (entries : List DataEntry) (records : List Record) → slice_get table.index number ≡ Some at → AreBytes block
     → checked_block (take table.start bytes) at.block table.sum ≡ Ok block → AreBlockRecords table.family at.block.offset before block records → from_block bytes table number before ≡ Ok entries → ComeFirst bytes table number before entries records
 come_first bytes table number before at block entries records there are handed is read =
-    let next = next_block bytes table number before at entries there read in
+    let next = block_at bytes table number before at entries there read in
     let front = next.first ∷ next.more in
     let block_is : next.block ≡ block = cc (next.handed, handed) in
     let told : block_told at.block.offset before block ≡ Ok front = ap (block_told at.block.offset before) (sym block_is) ∙ next.told in
@@ -50,7 +50,7 @@ come_first bytes table number before at block entries records there are handed i
 pub no_fault : {T : Type 0} (bytes_of : T → List ℕ) (told : Option Directory) (number block : ℕ) (table : TableRef) (before : Option (List ℕ)) (at : IndexEntry) (fault : CacheFault) → slice_get table.index block ≡ Some at
     → IfSome told (λ files. Gives bytes_of (block_in files number table.start at.block table.sum) (Err fault))
     → IfSome told (λ files. (entries : List DataEntry) → from_block (table_in files number) table block before ≡ Ok entries → TakesNext (table_in files number) table block before entries (Err (block_err at.block.offset fault)))
-no_fault bytes_of told number block table before at fault there gives = IfSome_then told gives (λ files gives entries read. let next = next_block (table_in files number) table block before at entries there read in by files entries fault gives (next.block, next.handed))
+no_fault bytes_of told number block table before at fault there gives = IfSome_then told gives (λ files gives entries read. let next = block_at (table_in files number) table block before at entries there read in by files entries fault gives (next.block, next.handed))
   where
     by : (files : Directory) (entries : List DataEntry) (fault : CacheFault) → Gives bytes_of (block_in files number table.start at.block table.sum) (Err fault)
         → (bytes : List ℕ) × (checked_block (take table.start (table_in files number)) at.block table.sum ≡ Ok bytes) → TakesNext (table_in files number) table block before entries (Err (block_err at.block.offset fault))

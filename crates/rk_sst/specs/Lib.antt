@@ -3,3 +3,4 @@ pub mod Seen
 pub mod Rising
 pub mod Taken
 pub mod Opened
+pub mod Lines

@@ -93,3 +93,37 @@ fn a_table_that_is_not_good_is_refused(rt: HostRuntime) -> Result<(), Fail> {
     }
     Ok(())
 }
+
+// A table of one record, `a` = `x` at sequence 1.
+const ONE_RECORD: &[u8] =
+    b"\0\x09\x01a\x01\x01\0\0\0\0\0\0x\0\0\0\0\x01\0\0\0\0\x84\xDD\x88t\0\0\0\0\x01\0\0\0\0\xC0\xF2\xA1\xB0\0\x09\x02a\x01\x01\0\0\0\0\0\0\0\x15\0\0\0\0\x01\0\0\0\06I%\xBF\x1A\x08'\x16\0\0\0\0\0\0\0\0\0\0\0\0\0\0\0\0\0\0\0\0\0\0\0\0\0\0\0\0\0\0\0\0\0\0\0\0W\xFB\x80\x8B$uG\xDB";
+
+// Whether these are the lines of a part of the table with this number.
+fn has_lines(alloc: Global, disk: &mut Untold, part: SstPart, hex: bool, wanted: &[u8]) -> bool {
+    match sst_lines(alloc, disk, 4, part, hex) {
+        Ok(text) => text.as_slice() == wanted,
+        Err(_) => false,
+    }
+}
+
+#[test]
+fn the_lines_of_a_table_are_given(rt: HostRuntime) -> Result<(), Fail> {
+    let alloc = rt.alloc();
+    let mut memory = MemDisk::new(alloc)?;
+    memory.put_file("000004.sst", ONE_RECORD)?;
+    let mut disk = Untold { disk: memory };
+    let good = b"good: family 0 entries 1 ranges 0\n";
+    assert!(rt; has_lines(alloc, &mut disk, SstPart::Check, false, good));
+    let entry = b"\"a\"@1:1 => \"x\"\n";
+    assert!(rt; has_lines(alloc, &mut disk, SstPart::Scan, false, entry));
+    let in_hexadecimal = b"0x61@1:1 => 0x78\n";
+    assert!(rt; has_lines(alloc, &mut disk, SstPart::Scan, true, in_hexadecimal));
+    assert!(rt; has_lines(alloc, &mut disk, SstPart::Properties, false, b""));
+    match sst_lines(alloc, &mut disk, 5, SstPart::Scan, false) {
+        Ok(_) => Err(Fail::new("there is no such table")),
+        Err(error) => {
+            assert_eq!(rt; error, SstErr::NoTable);
+            Ok(())
+        }
+    }
+}

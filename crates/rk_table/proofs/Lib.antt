@@ -1,3 +1,4 @@
+pub mod Callers
 mod BoundLemmas
 mod DataLemmas
 mod RangeLemmas

@@ -1,17 +1,24 @@
 -- The steps of a walk over a data block.
-use Rattle.std.proofs.Common.{◌≡◌, ℕ, ◌+◌, ◌-◌, ◌^◌, ◌≤◌, Bool, true, false, cond, List, [], ◌∷◌, length, map, min, max, Option, Some, None, Result, Ok, Err, refl, sym, ◌∙◌, ap, subst, arith}
+use Rattle.std.proofs.Common.{◌≡◌, ℕ, zero, suc, ◌+◌, ◌-◌, ◌^◌, ◌≤◌, Bool, true, false, cond, List, [], ◌∷◌, ◌++◌, length, map, take, drop, min, max, Option, Some, None, IfSome, Result, Ok, Err, refl, sym, ◌∙◌, ap, subst, arith}
 use Rattle.std.specs.Prelude.{unwrap_or, OnOk, not, ◌&&◌}
 use Rattle.std.specs.Result.{is_err}
 use Rattle.std.specs.List.{last_or}
-use Rattle.std.specs.Ordering.{is_gt}
+use Rattle.std.specs.Ordering.{is_gt, nat_cmp, ordering_then}
+use Rattle.std.specs.declared.cmp.Ordering.TheVariants.{Equal}
+use Rattle.std.specs.Cmp.{nat_cmp_is}
+use Rattle.std.specs.Cmp.Lexicographic.{slice_cmp}
+use Rattle.std.proofs.Math.Seq.{take-append-add, drop-append-add}
+use Rattle.std.proofs.lemmas.List.{length-append, length-take-le, take-append-drop}
+use Rattle.rk_bytes.specs.Model.Numbers.{little_endian}
 use Rattle.rk_bytes.specs.declared.model.block.IndexEntry.{IndexEntry}
 use Rattle.rk_bytes.specs.declared.model.key.KeyFault.{KeyFault}
 use Rattle.rk_bytes.specs.declared.model.key.KeyFault.TheVariants.{Short, UnsupportedKind, UnknownKind}
 use Rattle.rk_bytes.specs.declared.model.table.TableWhy.TheVariants.{BadKey, BadOrder, BadSeparator}
 use Rattle.rk_bytes.specs.Model.Numbers.{◌>>=◌}
-use Rattle.rk_bytes.specs.Model.BlockEntries.{Entry}
-use Rattle.rk_bytes.specs.Model.InternalKey.{KeyParts, user_key, key_parts, key_cmp}
-use Rattle.rk_bytes.specs.Model.TableStatus.{TableFault, damaged, DataEntry, is_range_deletion, is_above, entry_after, records_after, last_key, separator_cmp, are_separated}
+use Rattle.rk_bytes.specs.declared.model.block.BlockFault.{BlockFault}
+use Rattle.rk_bytes.specs.Model.BlockEntries.{Entry, with_fault}
+use Rattle.rk_bytes.specs.Model.InternalKey.{KeyParts, user_key, packed, key_parts, key_cmp}
+use Rattle.rk_bytes.specs.Model.TableStatus.{TableFault, damaged, DataEntry, block_status, is_range_deletion, is_above, entry_after, records_after, last_key, separator_cmp, are_separated}
 use Rattle.rk_bytes.proofs.Callers.Readings.{passed, taken}
 use Rattle.rk_block.specs.declared.entry.RawEntry.{RawEntry}
 use Rattle.rk_block.specs.Raw.{key_after, entry_of}
@@ -20,9 +27,48 @@ use Rattle.rk_table.specs.declared.status.WalkErr.TheVariants as err
 use Rattle.rk_table.specs.declared.walk.Checked.{Checked}
 use Rattle.rk_table.specs.declared.walk.Walk.{Walk}
 use Rattle.rk_table.specs.Told.{Tells}
-use Rattle.rk_table.specs.Walks.{before_of, walk_left, IsWalk, handed_out, preceded, HandsOut, block_told}
+use Rattle.rk_table.specs.declared.walk.LastKey.TheVariants.{Here}
+use Rattle.rk_block.specs.Tested.{TestedSeen, preceded as first_of, Gives}
+use Rattle.rk_table.specs.Walks.{entry_made, key_kept, before_of, IsFresh, IsFault, told_with, walk_left, IsWalk, handed_out, preceded, HandsOut, block_told}
 use Rattle.rk_table.specs.declared.records.Records.{Records}
 use Rattle.rk_table.specs.Blocks.{Rise, top_with, Counted, AreRecords, data_told}
+
+-- what two lists begin with doesn't tell them apart
+same_front : (front a b : List ℕ) → slice_cmp nat_cmp (front ++ a) (front ++ b) ≡ slice_cmp nat_cmp a b
+same_front [] a b = refl
+same_front (x ∷ front) a b = ap (λ o. ordering_then o (slice_cmp nat_cmp (front ++ a) (front ++ b))) (sym (nat_cmp_is x x Equal refl)) ∙ same_front front a b
+
+-- the parts of a key of which the last bytes are these
+user_behind : (front a : List ℕ) → 8 ≤ length a → user_key (front ++ a) ≡ front ++ user_key a
+user_behind front a long =
+    let n : length (front ++ a) - 8 ≡ length front + (length a - 8) = omega (arith, length-append front a, long) in
+    ap (λ n. take n (front ++ a)) n ∙ take-append-add front a (length a - 8)
+
+packed_behind : (front a : List ℕ) → 8 ≤ length a → packed (front ++ a) ≡ packed a
+packed_behind front a long =
+    let n : length (front ++ a) - 8 ≡ length front + (length a - 8) = omega (arith, length-append front a, long) in
+    ap (λ n. little_endian (drop n (front ++ a))) n ∙ ap little_endian (drop-append-add front a (length a - 8))
+
+-- what two keys begin with doesn't tell them apart
+cmp_behind : (front a b : List ℕ) → 8 ≤ length a → 8 ≤ length b → key_cmp (front ++ a) (front ++ b) ≡ key_cmp a b
+cmp_behind front a b a_long b_long =
+    (λ i. ordering_then (slice_cmp nat_cmp (user_behind front a a_long i) (user_behind front b b_long i)) (nat_cmp (packed_behind front b b_long i) (packed_behind front a a_long i)))
+    ∙ ap (λ o. ordering_then o (nat_cmp (packed b) (packed a))) (same_front front (user_key a) (user_key b))
+
+-- how the key of an entry stands to the key before it
+pub cmp_rests : (key : List ℕ) (raw : RawEntry) → 8 ≤ length raw.rest.now → 8 ≤ length (drop raw.shared key) → key_cmp (key_after key raw) key ≡ key_cmp raw.rest.now (drop raw.shared key)
+cmp_rests key raw rest_long long =
+    ap (key_cmp (key_after key raw)) (sym (take-append-drop raw.shared key))
+    ∙ cmp_behind (take raw.shared key) raw.rest.now (drop raw.shared key) rest_long long
+
+-- a key is rebuilt of what it shares as well
+pub after_front : (key : List ℕ) (raw : RawEntry) → key_after (take raw.shared key) raw ≡ key_after key raw
+after_front key raw = ap (λ front. front ++ raw.rest.now) (take_twice raw.shared key)
+  where
+    take_twice : (n : ℕ) (l : List ℕ) → take n (take n l) ≡ take n l
+    take_twice zero l = refl
+    take_twice (suc n) [] = refl
+    take_twice (suc n) (x ∷ l) = ap (λ l. x ∷ l) (take_twice n l)
 
 -- what may follow a key is above it
 above_of : (place : ℕ) (before : Option (List ℕ)) (entry : Entry (List ℕ)) (r : Result KeyParts KeyFault) (made : DataEntry) → entry_after place before entry r ≡ Ok made → is_above key_cmp entry.key before ≡ true
@@ -41,33 +87,97 @@ rest_made place before entry entries made e = ap (λ r. r >>= (λ first. records
     by (Ok more) = refl
     by (Err fault) = refl
 
+-- how long a rebuilt key is
+after_len : (key : List ℕ) (raw : RawEntry) → raw.shared ≤ length key → length (key_after key raw) ≡ raw.shared + length raw.rest.now
+after_len key raw within = length-append (take raw.shared key) raw.rest.now ∙ ap (λ n. n + length raw.rest.now) (length-take-le raw.shared key within)
+
 -- a walk hands out the next record
-pub hands_out : (old new : Walk) (checked : Checked) (raw : RawEntry) → IsWalk old
-    → old.entries.left ≡ entry_of old.entries.place old.entries.key raw ∷ new.entries.left
-    → new.entries.key ≡ key_after old.entries.key raw
-    → new.key ≡ key_after old.key raw
-    → ((entry : Entry (List ℕ)) → entry.key ≡ new.key → entry_after old.place (before_of old) entry (key_parts new.key) ≡ Ok (record { key = entry.key; parts = record { user = user_key entry.key; sequence = checked.sequence; kind = checked.kind }; value = entry.value }))
-    → checked.value.now ≡ raw.value.now
-    → new.before ≡ new.key → new.has_before ≡ true → new.place ≡ old.place → 8 ≤ length new.key
-    → HandsOut old checked new
-hands_out old new checked raw walk left key stepped told value kept there place long =
-    let entry = entry_of old.entries.place old.entries.key raw in
-    let key_is : entry.key ≡ new.key = ap (λ key. key_after key raw) walk.same ∙ sym stepped in
-    let made = told entry key_is in
-    let made' : entry_after old.place (before_of old) entry (key_parts entry.key) ≡ Ok (record { key = entry.key; parts = record { user = user_key entry.key; sequence = checked.sequence; kind = checked.kind }; value = entry.value }) = ap (λ key. entry_after old.place (before_of old) entry (key_parts key)) key_is ∙ made in
-    let before_is : before_of new ≡ Some new.key = (λ i. cond (there i) (Some (kept i)) None) in
-    record {
-      walk = record { same = key ∙ key_is; long = λ _. subst (λ key. 8 ≤ length key) (sym kept) long };
-      left = ap (λ entries. records_after old.place (before_of old) entries) left
-          ∙ rest_made old.place (before_of old) entry new.entries.left _ made'
-          ∙ (λ i. preceded (record { key = key_is i; parts = record { user = user_key (key_is i); sequence = checked.sequence; kind = checked.kind }; value = sym value i } ∷ []) (records_after (sym place i) (Some (key_is i)) new.entries.left))
-          ∙ ap (λ before. preceded (handed_out checked new.key ∷ []) (records_after new.place before new.entries.left)) (sym before_is);
-      shorter = let e : length old.entries.left ≡ length (entry ∷ new.entries.left) = ap length left in omega arith;
-      before = before_is;
-      above = subst (λ key. is_above key_cmp key (before_of old) ≡ true) key_is (above_of old.place (before_of old) entry (key_parts entry.key) _ made');
-      long = long;
-      place = place;
-    }
+module _ (old new : Walk) (checked : Checked) (raw : RawEntry) (walk : IsWalk old) (gives : Gives old.entries raw new.entries) (stepped : new.key ≡ key_after old.key raw)
+    (told : (entry : Entry (List ℕ)) → entry.key ≡ new.key → entry_after old.place (before_of old) entry (key_parts new.key) ≡ Ok (record { key = entry.key; parts = record { user = user_key entry.key; sequence = checked.sequence; kind = checked.kind }; value = entry.value }))
+    (value : checked.value.now ≡ raw.value.now) (here : new.last ≡ Here) (place : new.place ≡ old.place) (long : 8 ≤ length new.key) where
+  abbrev front : List DataEntry
+  front = handed_out checked new.key ∷ []
+
+  before_is : before_of new ≡ Some new.key
+  before_is = ap (λ last. key_kept last new.before new.key) here
+
+  abbrev handed : Entry (List ℕ)
+  handed = entry_of old.entries.place old.entries.key raw
+
+  -- what was left, by what is left
+  was_left : (r : Result (List (Entry (List ℕ))) BlockFault) → new.entries.left ≡ r → old.entries.left ≡ first_of handed r
+  was_left r e = gives.left ∙ ap (first_of handed) e
+
+  left_is : (r : Result (List (Entry (List ℕ))) BlockFault) → new.entries.left ≡ r → walk_left old ≡ preceded front (walk_left new)
+  left_is (Err fault) e =
+      ap (λ l. told_with old.place l (records_after old.place (before_of old))) (was_left (Err fault) e)
+      ∙ (λ i. Err (block_status (sym place i) fault))
+      ∙ sym (ap (λ l. preceded front (told_with new.place l (records_after new.place (before_of new)))) e)
+  left_is (Ok more) e =
+      let key_is : handed.key ≡ new.key = ap (λ key. key_after key raw) (walk.same (handed ∷ more) (was_left (Ok more) e)) ∙ sym stepped in
+      let made : entry_after old.place (before_of old) handed (key_parts handed.key) ≡ Ok (record { key = handed.key; parts = record { user = user_key handed.key; sequence = checked.sequence; kind = checked.kind }; value = handed.value }) = ap (λ key. entry_after old.place (before_of old) handed (key_parts key)) key_is ∙ told handed key_is in
+      ap (λ l. told_with old.place l (records_after old.place (before_of old))) (was_left (Ok more) e)
+      ∙ rest_made old.place (before_of old) handed more _ made
+      ∙ (λ i. preceded (record { key = key_is i; parts = record { user = user_key (key_is i); sequence = checked.sequence; kind = checked.kind }; value = sym value i } ∷ []) (records_after (sym place i) (Some (key_is i)) more))
+      ∙ ap (λ before. preceded front (records_after new.place before more)) (sym before_is)
+      ∙ sym (ap (λ l. preceded front (told_with new.place l (records_after new.place (before_of new)))) e)
+
+  is_walk : IsWalk new
+  is_walk = record {
+    same = λ more e. gives.key (handed ∷ more) (was_left (Ok more) e) ∙ ap (λ key. key_after key raw) (walk.same (handed ∷ more) (was_left (Ok more) e)) ∙ sym stepped;
+    len = gives.key_len ∙ sym (ap length stepped ∙ after_len old.key raw (subst (λ n. raw.shared ≤ n) walk.len gives.shared));
+    long = subst (λ (o : Option (List ℕ)). IfSome o (λ key. 8 ≤ length key)) (sym before_is) long;
+    fresh = subst (λ last. IsFresh last new.key) (sym here) tt;
+  }
+
+  is_above_before : is_above key_cmp new.key (before_of old) ≡ true
+  is_above_before =
+      let any : Entry (List ℕ) = record { place = 0; shared = 0; key = new.key; value = [] } in
+      above_of old.place (before_of old) any (key_parts new.key) _ (told any refl)
+
+  pub hands_out : HandsOut old checked new
+  hands_out = record {
+    walk = is_walk;
+    left = left_is new.entries.left refl;
+    shorter = gives.shorter;
+    before = before_is;
+    above = is_above_before;
+    long = long;
+    place = place;
+  }
+
+-- an entry that isn't a record's, before any others
+pub told_error : (place : ℕ) (before : Option (List ℕ)) (entry : Entry (List ℕ)) (error : WalkErr) (more : List (Entry (List ℕ))) → Tells (entry_made entry (Err error)) (entry_after place before entry (key_parts entry.key)) → IsFault error (records_after place before (entry ∷ more))
+told_error place before entry (err.Damaged why at) more e = ap (λ r. r >>= (λ first. records_after place (Some entry.key) more >>= (λ more. Ok (first ∷ more)))) e
+told_error place before entry (err.Unsupported what) more e = ap (λ r. r >>= (λ first. records_after place (Some entry.key) more >>= (λ more. Ok (first ∷ more)))) e
+told_error place before entry err.Memory more e = tt
+
+-- Where an entry isn't a record's, the first fault of what is left is that of the others, or its own.
+module _ (old : Walk) (next : TestedSeen) (raw : RawEntry) (key : List ℕ) (error found : WalkErr) (walk : IsWalk old) (gives : Gives old.entries raw next) (key_is : key ≡ key_after old.key raw)
+    (none : (entry : Entry (List ℕ)) → entry.key ≡ key → Tells (entry_made entry (Err error)) (entry_after old.place (before_of old) entry (key_parts key)))
+    (first : (told : List (Entry (List ℕ)) → Result (List DataEntry) TableFault) → ((more : List (Entry (List ℕ))) → IsFault error (told more)) → IsFault found (told_with old.place next.left told)) where
+  abbrev under : List ℕ → Entry (List ℕ)
+  under key = record { place = old.entries.place; shared = raw.shared; key = key; value = raw.value.now }
+
+  abbrev behind : List (Entry (List ℕ)) → Result (List DataEntry) TableFault
+  behind more = records_after old.place (before_of old) (under key ∷ more)
+
+  abbrev all_of : Result (List (Entry (List ℕ))) BlockFault → Result (List DataEntry) TableFault
+  all_of l = told_with old.place l (records_after old.place (before_of old))
+
+  had_left : (r : Result (List (Entry (List ℕ))) BlockFault) → next.left ≡ r → old.entries.left ≡ first_of (under (key_after old.entries.key raw)) r
+  had_left r e = gives.left ∙ ap (first_of (under (key_after old.entries.key raw))) e
+
+  same_told : (r : Result (List (Entry (List ℕ))) BlockFault) → next.left ≡ r → told_with old.place next.left behind ≡ walk_left old
+  same_told (Err fault) e = ap (λ l. told_with old.place l behind) e ∙ sym (ap all_of (had_left (Err fault) e))
+  same_told (Ok more) e =
+      let same : key ≡ key_after old.entries.key raw = key_is ∙ ap (λ key. key_after key raw) (sym (walk.same (under (key_after old.entries.key raw) ∷ more) (had_left (Ok more) e))) in
+      ap (λ l. told_with old.place l behind) e
+      ∙ ap (λ key. records_after old.place (before_of old) (under key ∷ more)) same
+      ∙ sym (ap all_of (had_left (Ok more) e))
+
+  pub fault_behind : IsFault found (walk_left old)
+  fault_behind = subst (IsFault found) (same_told next.left refl) (first behind (λ more. told_error old.place (before_of old) (under key) error more (none (under key) refl)))
 
 -- the key of the last of more records
 pub last_of_more : (k d : List ℕ) (keys : List (List ℕ)) → unwrap_or (last_or (Some k) keys) d ≡ unwrap_or (last_or None keys) k

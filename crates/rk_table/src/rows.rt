@@ -14,6 +14,12 @@ use rk_bytes::{Bytes, Memory, Seq};
 use rk_ikey::split_key;
 use std::alloc::Global;
 
+/// A list of records has room for one in so many bytes of their block from the start.
+const ROOM_LEN: usize = 64;
+
+/// For how many records a list has room from the start at most.
+const MOST_ROOM: usize = 1024;
+
 /// The records of the data block with this number in a table's index, counted from 0, under the table's
 /// family: those of a block's bytes whose keys follow a key, if there is one. The first fault is that of
 /// the block's entries or restart offsets, then at the first entry of which the key is none of a data
@@ -48,11 +54,22 @@ fn walk_records(
     ensures { GivesRecords family place (value_of after.entry) block.now result }
 {
     let mut walk = Walk::new(alloc, place, after, block)?;
-    let mut records = Seq::new(alloc);
+    let mut records = list_for(alloc, block.len())?;
     while let Some(checked) = walk.next()? {
         push_record(alloc, &mut records, family, walk.key(), checked)?;
     }
     Ok(records)
+}
+
+/// An empty list for the records of a block of so many bytes, with room for some of them.
+fn list_for(alloc: Global, block_len: usize) -> Result<Seq<Record>, WalkErr>
+    ensures ok { IfOk result (λ list. list ≡ []) }
+    ensures err { IfErr result (λ error. error ≡ WalkErr.Memory) }
+{
+    match Vec::with_capacity(alloc, (block_len / ROOM_LEN).min(MOST_ROOM)) {
+        Ok(room) => Ok(Seq::from_vec(room)),
+        Err(_) => Err(WalkErr::Memory),
+    }
 }
 
 /// Puts a data record under this internal key at the end.

@@ -1,5 +1,6 @@
 // Both tables were made by a program of another language, from the format's description.
 use super::*;
+use crate::front::front;
 use rk_bytes::model::Kind;
 use rk_bytes::{Bytes, Memory};
 use std::alloc::Global;
@@ -52,6 +53,65 @@ fn the_first_fault_of_a_table_is_told(rt: HostRuntime) -> Result<(), Fail> {
     ] {
         let status = table_status(rt.alloc(), bytes)?;
         assert_eq!(rt; told(&status), wanted);
+    }
+    Ok(())
+}
+
+// Whether the status of the bytes is this damage at this place.
+fn is_damaged(alloc: Global, bytes: &[u8], why: TableWhy, place: u64) -> Result<bool, Memory> {
+    let status = table_status(alloc, bytes)?;
+    Ok(told(&status) == (1, Some(why), place))
+}
+
+// Whether the status of a front of the first table is that it has no footer.
+fn front_is_told(alloc: Global, len: u8) -> Result<bool, Memory> {
+    let bytes = front(&ONE_RECORD, u64::from(len));
+    if len < 48 {
+        is_damaged(alloc, bytes, TableWhy::FooterShort, 0)
+    } else {
+        is_damaged(alloc, bytes, TableWhy::BadMagic, u64::from(len - 48))
+    }
+}
+
+#[test]
+fn every_front_of_a_table_is_told(rt: HostRuntime) -> Result<(), Fail> {
+    for len in 0..114 {
+        assert!(rt; front_is_told(rt.alloc(), len)?);
+    }
+    Ok(())
+}
+
+// Whether the status of the first table with these bits of one of its bytes changed is that the checksum of the
+// block at this place is wrong.
+fn change_is_told(alloc: Global, at: usize, bits: u8, place: u64) -> Result<bool, Memory> {
+    let mut bytes = ONE_RECORD;
+    if let Some(byte) = bytes.get_mut(at) {
+        *byte ^= bits;
+    }
+    is_damaged(alloc, &bytes, TableWhy::Checksum, place)
+}
+
+// Whether that is so of each bit of the byte.
+fn changes_are_told(alloc: Global, at: usize, place: u64) -> Result<bool, Memory> {
+    for bits in [1, 2, 4, 8, 16, 32, 64, 128] {
+        if !change_is_told(alloc, at, bits, place)? {
+            return Ok(false);
+        }
+    }
+    Ok(true)
+}
+
+#[test]
+fn every_changed_bit_of_a_block_is_told(rt: HostRuntime) -> Result<(), Fail> {
+    for at in 0..66 {
+        let place = if at < 26 {
+            0
+        } else if at < 39 {
+            26
+        } else {
+            39
+        };
+        assert!(rt; changes_are_told(rt.alloc(), at, place)?);
     }
     Ok(())
 }

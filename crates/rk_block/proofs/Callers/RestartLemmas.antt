@@ -8,11 +8,7 @@ use Rattle.std.proofs.lemmas.Bool.{lt-ltb, ltb-true, eqb-true, ne_eqb, and_parts
 use Rattle.rk_bytes.specs.Model.BlockEntries.{Entry, rises, is_restart, right_restarts}
 use Rattle.rk_block.specs.Restarts.{starts_at_zero, offsets_after, are_met}
 use Rattle.rk_block.specs.Read.{AreBetween}
-
--- the offsets that are left after entries
-abbrev pub offsets_left : {V : Type 0} → List (Entry V) → List ℕ → List ℕ
-offsets_left [] offsets = offsets
-offsets_left (entry ∷ entries) offsets = offsets_left entries (offsets_after entry.place entry.shared offsets)
+pub use Rattle.rk_block.specs.Walked.{offsets_left}
 
 -- and after one entry more
 pub offsets_left-push : {V : Type 0} (entries : List (Entry V)) (entry : Entry V) (offsets : List ℕ) → offsets_left (entries ++ entry ∷ []) offsets ≡ offsets_after entry.place entry.shared (offsets_left entries offsets)

@@ -1,7 +1,8 @@
 use Rattle.std.specs.Prelude.{not}
 use Rattle.std.proofs.Common.{Ok, ◌+◌, ◌≤◌, length, refl, arith, subst, sym, ap, ◌∙◌, length-drop}
 use Rattle.std.proofs.lemmas.List.{take_rest}
-use Rattle.rk_block.proofs.WalkLemmas.{ReadsHere, ReadsNothing, IsWalked-start, IsWalked-more, IsWalked-fault, IsWalked-shares, IsWalked, IsWalked-end}
+use Rattle.rk_block.proofs.WalkLemmas.{ReadsHere, ReadsNothing, IsWalked-start, IsWalked-more, IsWalked-fault, IsWalked-shares, IsWalked-end}
+use Rattle.rk_block.specs.Walked.{IsWalked}
 use Rattle.rk_block.proofs.part.has_right_restarts.Goals as goal
 
 pub loop-place-init : goal.loop-place-init

@@ -1,5 +1,5 @@
 use Rattle.std.proofs.Common.{◌-◌, length}
-use Rattle.rk_block.proofs.WalkLemmas.{IsWalked}
+use Rattle.rk_block.specs.Walked.{IsWalked}
 use Rattle.rk_block.proofs.part.has_right_restarts.Given as goal
 
 abbrev pub invariant-loop-place : goal.invariant-loop-place

@@ -1,6 +1,6 @@
 use Rattle.std.proofs.Common.{arith}
 use Rattle.rk_table.specs.Told.{value_of}
-use Rattle.rk_sst.proofs.ByteLemmas.{are_bytes}
+use Rattle.rk_table.proofs.Callers.KeyBytes.{are_bytes}
 use Rattle.rk_sst.proofs.TakenLemmas.{come_first, entry_there}
 use Rattle.rk_sst.proofs.RisingLemmas.{block_rises}
 use Rattle.rk_sst.proofs.records.records_in.Goals as goal

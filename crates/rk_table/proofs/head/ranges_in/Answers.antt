@@ -1,5 +1,6 @@
 use Rattle.std.proofs.Common.{arith}
-use Rattle.rk_table.proofs.RangeLemmas.{are_bytes, told_below_top}
+use Rattle.rk_table.proofs.Callers.KeyBytes.{are_bytes}
+use Rattle.rk_table.proofs.RangeLemmas.{told_below_top}
 use Rattle.rk_table.proofs.head.ranges_in.Goals as goal
 
 pub returns-in-Ok-clause-top : goal.returns-in-Ok-clause-top

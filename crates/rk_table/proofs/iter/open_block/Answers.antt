@@ -3,7 +3,8 @@ use Rattle.rk_bytes.specs.Model.TableFooter.{checked_block}
 use Rattle.rk_bytes.specs.Reading.{slice_read}
 use Rattle.rk_table.specs.Told.{value_of}
 use Rattle.rk_table.specs.Walks.{block_told}
-use Rattle.rk_table.proofs.LeftLemmas.{next_block, opened}
+use Rattle.rk_table.proofs.Callers.GoodTables.{next_block}
+use Rattle.rk_table.proofs.LeftLemmas.{opened}
 use Rattle.rk_table.proofs.iter.open_block.Goals as goal
 
 pub returns-in-Ok-new : goal.returns-in-Ok-new

@@ -1,4 +1,3 @@
-use Rattle.std.proofs.Common.{length}
 use Rattle.rk_table.proofs.WalkLemmas.{Counting}
 use Rattle.rk_table.proofs.records.count_rest.Given as goal
 
@@ -6,4 +5,4 @@ abbrev pub invariant-loop-record : goal.invariant-loop-record
 invariant-loop-record l = Counting l.initial.walk l.initial.entries l.initial.top l.walk l.entries l.top
 
 abbrev pub decreases-loop-record : goal.decreases-loop-record
-decreases-loop-record l = length l.walk.entries.left
+decreases-loop-record l = l.walk.entries.rest

@@ -1,4 +1,3 @@
-use Rattle.std.proofs.Common.{length}
 use Rattle.rk_table.proofs.RowLemmas.{Gathering}
 use Rattle.rk_table.proofs.rows.walk_records.Given as goal
 
@@ -6,4 +5,4 @@ abbrev pub invariant-loop-records : goal.invariant-loop-records
 invariant-loop-records l = Gathering l.family l.initial.walk l.walk l.records
 
 abbrev pub decreases-loop-records : goal.decreases-loop-records
-decreases-loop-records l = length l.walk.entries.left
+decreases-loop-records l = l.walk.entries.rest

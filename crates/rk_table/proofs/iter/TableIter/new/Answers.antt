@@ -2,7 +2,7 @@ use Rattle.std.proofs.Common.{◌≡◌, None, Ok, sym, subst, ap, ◌∙◌}
 use Rattle.rk_bytes.specs.declared.model.table.TableRef.{TableRef}
 use Rattle.rk_bytes.specs.Model.TableStatus.{Good}
 use Rattle.rk_table.specs.Left.{from_block, records_told}
-use Rattle.rk_table.proofs.LeftLemmas.{good_entries}
+use Rattle.rk_table.proofs.Callers.GoodTables.{good_entries}
 use Rattle.rk_table.proofs.iter.TableIter.new.Goals as goal
 
 pub invariant_of-result : goal.invariant_of-result

@@ -1,7 +1,6 @@
--- The data records of a good table, from one block to the next.
-use Rattle.std.proofs.Common.{◌≡◌, ℕ, zero, suc, ◌+◌, Bool, true, List, [], ◌∷◌, ◌++◌, map, take, drop, Option, Some, None, Result, Ok, refl, sym, ◌∙◌, ap, subst, arith}
+-- The data records of a good table, and what is read of its next data block.
+use Rattle.std.proofs.Common.{◌≡◌, ℕ, zero, suc, ◌+◌, Bool, true, List, [], ◌∷◌, ◌++◌, map, take, drop, Option, Some, None, Result, Ok, refl, sym, ◌∙◌, ap, subst}
 use Rattle.std.specs.Prelude.{slice_get}
-use Rattle.std.specs.List.{last_or}
 use Rattle.rk_bytes.specs.declared.model.block.IndexEntry.{IndexEntry}
 use Rattle.rk_bytes.specs.declared.model.table.TableRef.{TableRef}
 use Rattle.rk_bytes.specs.declared.model.table.TableWhy.TheVariants.{BadSeparator}
@@ -10,9 +9,10 @@ use Rattle.rk_bytes.specs.Model.BlockEntries.{Entry, with_fault, block_entries}
 use Rattle.rk_bytes.specs.Model.TableFooter.{checked_block, footer_of, footer_start}
 use Rattle.rk_bytes.specs.Model.TableStatus.{TableFault, damaged, DataEntry, Good, footer_status, trailer_status, block_status, held, records_after, last_key, are_separated, data_block, data_records, record_in, head_with, good, is_set, user_separators, reader_of, table_with, table_status}
 use Rattle.rk_bytes.proofs.Callers.Readings.{both_steps, with_fault_ok, taken}
+use Rattle.rk_table.specs.Walks.{block_told}
 use Rattle.rk_table.specs.Stages.{separator_before}
 use Rattle.rk_table.specs.Left.{blocks_of, from_block}
-use Rattle.rk_table.specs.Walks.{block_told}
+use Rattle.rk_table.proofs.DataLemmas.{later_is}
 
 -- a good table's records
 pub good_entries : (bytes : List ℕ) (g : Good) → table_status bytes ≡ Ok g → (entries : List DataEntry) × (from_block bytes g.table 0 None ≡ Ok entries) × (g.records ≡ map (record_in g.table.family) entries)
@@ -24,27 +24,6 @@ good_entries bytes g e =
     let made = good footer head.properties head.ranges head.index entries in
     let same : made ≡ g = cc in
     subst (λ (g : Good). (entries : List DataEntry) × (from_block bytes g.table 0 None ≡ Ok entries) × (g.records ≡ map (record_in g.table.family) entries)) same (entries, read'', refl)
-
--- the entry of an index at a number
-pub entry_at : (n : ℕ) (index : List IndexEntry) (at : IndexEntry) → slice_get index n ≡ Some at → (later : List IndexEntry) × (drop n index ≡ at ∷ later)
-entry_at n [] at e = absurd cc
-entry_at zero (first ∷ index) at e = let same : first ≡ at = cc in (index, ap (λ (at : IndexEntry). at ∷ index) same)
-entry_at (suc n) (first ∷ index) at e = entry_at n index at e
-
--- the index from its data block with this number on
-last_there : (o : Option (List ℕ)) (xs : List (List ℕ)) (x : List ℕ) → last_or None xs ≡ Some x → last_or o xs ≡ Some x
-last_there o [] x e = absurd cc
-last_there o (y ∷ xs) x e = e
-
-later_suc : (n : ℕ) (index later : List IndexEntry) (at : IndexEntry) → drop n index ≡ at ∷ later → (drop (suc n) index ≡ later) × (separator_before (suc n) index ≡ Some at.separator)
-later_suc zero index later at e = subst (λ (index : List IndexEntry). (drop 1 index ≡ later) × (separator_before 1 index ≡ Some at.separator)) (sym e) (refl, refl)
-later_suc (suc n) [] later at e = absurd cc
-later_suc (suc n) (x ∷ index) later at e = let (rest, separator) = later_suc n index later at e in (rest, last_there (Some x.separator) (map (λ (at : IndexEntry). at.separator) (take (suc n) index)) at.separator separator)
-
-later_is : (index later : List IndexEntry) (number : ℕ) (at : IndexEntry) → drop number index ≡ at ∷ later → (drop (number + 1) index ≡ later) × (separator_before (number + 1) index ≡ Some at.separator)
-later_is index later number at e =
-    let one : suc number ≡ number + 1 = omega arith in
-    subst (λ (n : ℕ). (drop n index ≡ later) × (separator_before n index ≡ Some at.separator)) one (later_suc number index later at e)
 
 -- What is read of the next data block: its bytes, and its records before the others.
 pub record NextBlock (bytes : List ℕ) (table : TableRef) (number : ℕ) (before : Option (List ℕ)) (at : IndexEntry) (entries : List DataEntry) : Type 0 where
@@ -61,9 +40,8 @@ separated_some : (by_user : Bool) (lower : Option (List ℕ)) (upper : List ℕ)
 separated_some by_user lower upper [] e = absurd cc
 separated_some by_user lower upper (first ∷ more) e = (first, more, refl)
 
-pub next_block : (bytes : List ℕ) (table : TableRef) (number : ℕ) (before : Option (List ℕ)) (at : IndexEntry) (entries : List DataEntry) → slice_get table.index number ≡ Some at → from_block bytes table number before ≡ Ok entries → NextBlock bytes table number before at entries
-next_block bytes table number before at entries there e =
-    let (index, dropped) = entry_at number table.index at there in
+pub next_block : (bytes : List ℕ) (table : TableRef) (number : ℕ) (before : Option (List ℕ)) (at : IndexEntry) (index : List IndexEntry) (entries : List DataEntry) → drop number table.index ≡ at ∷ index → from_block bytes table number before ≡ Ok entries → NextBlock bytes table number before at entries
+next_block bytes table number before at index entries dropped e =
     let block_of = blocks_of bytes table in
     let lower = separator_before number table.index in
     let (dropped', separator) = later_is table.index index number at dropped in
@@ -87,3 +65,15 @@ next_block bytes table number before at entries there e =
       rest = (λ i. data_records block_of table.user_keys (last_key (sym records_are i)) (separator i) (dropped' i)) ∙ read';
       all = sym joined ∙ ap (λ (records : List DataEntry). records ++ later) records_are;
     }
+
+-- the entry of an index at a number
+entry_at_number : (n : ℕ) (index : List IndexEntry) (at : IndexEntry) → slice_get index n ≡ Some at → (later : List IndexEntry) × (drop n index ≡ at ∷ later)
+entry_at_number n [] at e = absurd cc
+entry_at_number zero (first ∷ index) at e = let same : first ≡ at = cc in (index, ap (λ (at : IndexEntry). at ∷ index) same)
+entry_at_number (suc n) (first ∷ index) at e = entry_at_number n index at e
+
+-- the same of the entry at a number
+pub block_at : (bytes : List ℕ) (table : TableRef) (number : ℕ) (before : Option (List ℕ)) (at : IndexEntry) (entries : List DataEntry) → slice_get table.index number ≡ Some at → from_block bytes table number before ≡ Ok entries → NextBlock bytes table number before at entries
+block_at bytes table number before at entries there e =
+    let (later, dropped) = entry_at_number number table.index at there in
+    next_block bytes table number before at later entries dropped e

@@ -1,12 +1,13 @@
 -- The keys of a block of bytes are bytes.
-use Rattle.std.proofs.Common.{◌≡◌, ℕ, zero, suc, ◌+◌, ◌-◌, ◌*◌, ◌^◌, ◌<◌, List, [], ◌∷◌, ◌++◌, length, get_or, take, drop, Result, Ok, Err, sym, ap, subst}
+use Rattle.std.proofs.Common.{◌≡◌, ℕ, zero, suc, ◌+◌, ◌-◌, ◌*◌, ◌^◌, ◌<◌, List, [], ◌∷◌, ◌++◌, length, get_or, take, drop, Result, Ok, Err, sym, ap, subst, arith}
 use Rattle.std.proofs.lemmas.List.{take-append-drop}
 use Rattle.std.specs.Prelude.{◌==◌, ◌||◌, nat_lt, nat_le}
 use Rattle.std.specs.List.{AllByRecursion}
 use Rattle.rk_bytes.specs.declared.model.block.BlockFault.{BlockFault}
 use Rattle.rk_bytes.specs.declared.model.block.BlockFault.TheVariants.{HashIndex, BadEntry, BadRestarts, Short}
-use Rattle.rk_bytes.specs.Model.Numbers.{AreBytes, part_of, varint32_at}
+use Rattle.rk_bytes.specs.Model.Numbers.{AreBytes, little_endian, part_of, varint32_at}
 use Rattle.rk_bytes.specs.Model.BlockEntries.{Entry, with_fault, entry_at, next_entry, no_entry, entries_after, restart_count, fixed32s, block_parts, right_restarts, block_entries}
+use Rattle.rk_bytes.proofs.Callers.FixedNumbers.{fixed_bound}
 use Rattle.rk_bytes.proofs.Callers.Readings.{both_steps, with_fault_ok, passed, taken, bytes_after, bytes_before, part_of_ok, varint32_ok}
 
 both_bytes : (a b : List ℕ) → AreBytes a → AreBytes b → AreBytes (a ++ b)
@@ -78,3 +79,8 @@ keys_bytes block entries are e =
 pub are_bytes : (bytes : List ℕ) → ((i : ℕ) → get_or bytes i 0 < 2 ^ 8) → AreBytes bytes
 are_bytes [] fit = tt
 are_bytes (b ∷ bytes) fit = (fit 0, are_bytes bytes (λ i. fit (suc i)))
+
+-- the number that bytes spell
+pub little_endian-below : (bytes : List ℕ) → AreBytes bytes → little_endian bytes < fixed_bound (length bytes)
+little_endian-below [] are = omega arith
+little_endian-below (b ∷ bytes) are = let later = little_endian-below bytes are.1 in let first = are.0 in omega arith

@@ -1,0 +1,3 @@
+-- Lemmas that the proofs of callers cite.
+pub mod KeyBytes
+pub mod GoodTables
