@@ -1,13 +1,17 @@
 pub mod Apart
 pub mod ClashCounts
 pub mod Each
+pub mod EditBack
 pub mod FieldLemmas
 pub mod FileOrder
+pub mod Keyed
+pub mod LogsBack
 pub mod PlaceLemmas
 pub mod RankChanges
 pub mod RankOrder
 pub mod RankPlaces
 pub mod RankingsLemmas
+pub mod Restoring
 pub mod Rising
 pub mod StatedLemmas
 pub mod StepLemmas

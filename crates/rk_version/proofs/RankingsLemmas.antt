@@ -9,11 +9,12 @@ use Rattle.rk_bytes.specs.declared.model.manifest.FamilyState.{FamilyState}
 use Rattle.rk_bytes.specs.Model.Manifest.{has_id, add_family, drop_family, overlap}
 use Rattle.rk_version.specs.declared.ranking.Ranking.{Ranking}
 use Rattle.rk_version.specs.Bounds.{HasFilesInOrder}
+use Rattle.rk_version.specs.Keyed.{put}
 use Rattle.rk_version.specs.Places.{IsAt, IsFree}
 use Rattle.rk_version.specs.Rankings.{ranked, ranking_of, rankings_of}
 use Rattle.rk_version.proofs.Apart.{level_found}
 use Rattle.rk_version.proofs.ClashCounts.{none_first}
-use Rattle.rk_version.proofs.PlaceLemmas.{changed, changed_at, inserted, removed}
+use Rattle.rk_version.proofs.PlaceLemmas.{changed, changed_at, inserted, removed, replaced}
 use Rattle.rk_version.proofs.RankChanges.{map_insert, map_remove}
 use Rattle.rk_version.proofs.RankOrder.{ranked_turn, same_files}
 
@@ -34,6 +35,15 @@ module _ (families : List FamilyState) (items : List Ranking) (kept : items ≡ 
 
   pub without_one : IsAt (λ live. live.id) id families place → remove items place ≡ rankings_of (drop_family id families)
   without_one at = ap (λ items. remove items place) kept ∙ map_remove of_family families place ∙ ap rankings_of (sym (removed (λ live. live.id) id place families at))
+
+  -- one takes the place of the one with its id, or comes
+  pub with_put : (live : FamilyState) (new : Ranking) → new ≡ ranking_of live.files → IsAt (λ live. live.id) live.id families place → set items place new ≡ rankings_of (put (λ live. live.id) live families)
+  with_put live new new_is at =
+      (λ i. set (kept i) place (new_is i)) ∙ map_set of_family families place live ∙ ap rankings_of (replaced (λ live. live.id) live.id place families live at)
+
+  pub with_more : (live : FamilyState) (new : Ranking) → new ≡ ranking_of live.files → IsFree (λ live. live.id) live.id families place → insert items place new ≡ rankings_of (put (λ live. live.id) live families)
+  with_more live new new_is free =
+      (λ i. insert (kept i) place (new_is i)) ∙ map_insert of_family families place live ∙ ap rankings_of (inserted (λ live. live.id) live.id place families live free)
 
   -- the files of one are changed
   pub with_change : (change : FamilyState → FamilyState) (live : FamilyState) (new : Ranking) → IsAt (λ live. live.id) id families place → live ≡ get_or families place live → new ≡ ranking_of (change live).files

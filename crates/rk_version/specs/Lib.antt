@@ -1,8 +1,13 @@
 pub mod Answers
 pub mod Bounds
+pub mod Keeping
+pub mod Keyed
 pub mod Places
+pub mod Ranked
 pub mod Rankings
 pub mod Spots
 pub mod Stated
 pub mod Steps
+pub mod Undoing
+pub mod Undone
 pub mod Units

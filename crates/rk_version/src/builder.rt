@@ -1,13 +1,15 @@
-ghost use Rattle.std.specs.Prelude.{◌≡◌, None, IsOk, IfOk};
+ghost use Rattle.std.specs.Prelude.{◌≡◌, None, IsOk, IfOk, MatchResult};
 ghost use Rattle.std.specs.Option.{ForSome};
 ghost use Rattle.std.specs.List.{All};
 ghost use Rattle.rk_log.specs.Items.{piece_bytes};
 ghost use Rattle.rk_bytes.specs.Model.VersionEdit.{edit_fields};
 ghost use Rattle.rk_bytes.specs.Model.Manifest.{ManifestUnit, first_version};
 ghost use Rattle.rk_version.specs.Answers.{Applies};
+ghost use Rattle.rk_version.specs.Undoing.{AppliesUndo, Leads, Undoes};
 ghost use Rattle.rk_version.specs.Units.{IsUnit};
 
 use crate::draft::Draft;
+use crate::undo::{Undo, UndoErr, apply_unit_undo, undo_unit};
 use crate::unit::{Unit, apply_known_unit, apply_unit};
 use crate::{ApplyFault, Version};
 use rk_bytes::Memory;
@@ -67,6 +69,45 @@ impl VersionBuilder {
         let after = apply_unit(self.alloc, before, unit)?;
         let old = mem::replace(&mut self.current, after);
         self.spare = apply_known_unit(self.alloc, old, unit).ok();
+        Ok(())
+    }
+
+    /// Applies the unit as `apply` does, with the same refusals, and gives what leads from the version after it
+    /// back to the one before. `Memory` comes only where memory runs out.
+    pub fn apply_undo(&mut self, unit: &Unit<'_>) -> Result<Undo, ApplyFault>
+        requires reads { All (λ piece. IsOk (edit_fields (piece_bytes piece))) unit.now.pieces }
+        ensures applies { (means : ManifestUnit) → IsUnit unit.now means → AppliesUndo means self.old result self.new }
+        ensures leads { IfOk result (λ undo. Leads undo self.new self.old) }
+    {
+        let before = match take_spare(&mut self.spare, &self.current) {
+            Ok(spare) => spare,
+            Err(Memory) => return Err(ApplyFault::Memory),
+        };
+        let (after, undo) = apply_unit_undo(self.alloc, before, unit)?;
+        let old = mem::replace(&mut self.current, after);
+        self.spare = apply_known_unit(self.alloc, old, unit).ok();
+        Ok(undo)
+    }
+
+    /// Goes back to the version to which the undo leads from this one. Where memory runs out, the version is left
+    /// as it was and the undo is handed back.
+    pub fn undo(&mut self, undo: Undo) -> Result<(), UndoErr>
+        ensures { Undoes undo self.old result self.new }
+    {
+        match self.go_back(&undo) {
+            Ok(()) => Ok(()),
+            Err(Memory) => Err(UndoErr::Memory(undo)),
+        }
+    }
+
+    /// Goes back over the unit, or leaves the version as it was.
+    fn go_back(&mut self, undo: &Undo) -> Result<(), Memory>
+        ensures { MatchResult result (λ done. Leads undo.now self.old self.new) (λ why. self.new ≡ self.old) }
+    {
+        let before = take_spare(&mut self.spare, &self.current)?;
+        let after = undo_unit(before, undo)?;
+        let old = mem::replace(&mut self.current, after);
+        self.spare = undo_unit(old, undo).ok();
         Ok(())
     }
 

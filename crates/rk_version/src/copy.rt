@@ -26,14 +26,21 @@ fn copy_families(alloc: Global, families: &[FamilyState]) -> Result<Seq<FamilySt
 {
     let mut copies = Seq::new(alloc);
     for live in families {
-        copies.push(FamilyState {
-            id: live.id,
-            name: Bytes::copy_of(alloc, live.name.as_slice())?,
-            log: live.log,
-            files: copy_files(alloc, live.files.as_slice())?,
-        })?;
+        copies.push(copy_family(alloc, live)?)?;
     }
     Ok(copies)
+}
+
+/// A copy of the family.
+pub(crate) fn copy_family(alloc: Global, live: &FamilyState) -> Result<FamilyState, Memory>
+    ensures { IfOk result (λ copy. copy ≡ live.now) }
+{
+    Ok(FamilyState {
+        id: live.id,
+        name: Bytes::copy_of(alloc, live.name.as_slice())?,
+        log: live.log,
+        files: copy_files(alloc, live.files.as_slice())?,
+    })
 }
 
 /// A copy of the files.
@@ -47,8 +54,8 @@ fn copy_files(alloc: Global, files: &[FileMeta]) -> Result<Seq<FileMeta>, Memory
     Ok(copies)
 }
 
-/// A copy of the file.
-fn copy_file(alloc: Global, file: &FileMeta) -> Result<FileMeta, Memory>
+/// A copy of the file. `Memory` comes only where memory runs out.
+pub fn copy_file(alloc: Global, file: &FileMeta) -> Result<FileMeta, Memory>
     ensures { IfOk result (λ copy. copy ≡ file.now) }
 {
     Ok(FileMeta {

@@ -1,15 +1,24 @@
-ghost use Rattle.std.specs.Prelude.{◌≡◌, ◌==◌, ◌&&◌, ◌||◌, not, false, filter, is_some, Ok, IfOk};
+ghost use Rattle.std.specs.Prelude.{◌≡◌, ◌==◌, ◌&&◌, ◌||◌, ◌++◌, not, false, filter, find, is_some, nat_lt, Ok, IfOk};
 ghost use Rattle.std.specs.List.{list_any};
-ghost use Rattle.rk_bytes.specs.Model.Manifest.{has_id, has_name, with_families, add_family, drop_family, has_number, with_files, add_meta, with_numbers, first_version, overlap};
+ghost use Rattle.std.specs.Option.{option_copied, ForSome};
+ghost use Rattle.rk_bytes.specs.Model.Manifest.{has_id, has_name, with_family, with_families, add_family, drop_family, has_number, with_files, add_meta, with_numbers, first_version, overlap};
 ghost use Rattle.rk_version.specs.Answers.{Gives, Finds};
-ghost use Rattle.rk_version.specs.Bounds.{HasWholeBounds};
+ghost use Rattle.rk_version.specs.Bounds.{HasWholeBounds, HasFilesInOrder, IsInOrder};
+ghost use Rattle.rk_version.specs.Keeping.{least_kept};
+ghost use Rattle.rk_version.specs.Keyed.{put, found_all};
 ghost use Rattle.rk_version.specs.Stated.{Tells};
+ghost use Rattle.rk_version.specs.Undone.{family_before, numbers_before};
 
 use crate::copy::copy_version;
+use crate::kept::{KeptEdit, KeptFiles};
 use crate::overlap::find_overlap;
+use crate::place::place_of_family;
+use crate::ranked::RankedFamily;
 use crate::ranking::Ranking;
 use crate::stated::Stated;
-use crate::{ApplyFault, FamilyState, FileMeta, Version, families, logs, rankings};
+use crate::{
+    ApplyFault, FamilyState, FileMeta, Tracked, Version, families, logs, rankings, restore,
+};
 use rk_bytes::{Bytes, Memory, Seq};
 use rk_edit::EditView;
 use std::alloc::Global;
@@ -120,6 +129,53 @@ impl Draft {
         ensures { result ≡ list_any (λ live. has_id id live && list_any (λ file. has_number number file && file.level == level) live.files) self.now.families }
     {
         families::has_file_at(self.version.families.as_slice(), id, level, number)
+    }
+
+    /// The version is in order.
+    pub(crate) fn show_order(&self)
+        ensures { IsInOrder self.now }
+    {
+        let _version = &self.version;
+    }
+
+    /// The family that has this id.
+    pub(crate) fn family(&self, id: u32) -> Option<&FamilyState>
+        ensures found { option_copied result ≡ find (has_id id) self.now.families }
+        ensures order { ForSome (option_copied result) HasFilesInOrder }
+    {
+        families::find_family(self.version.families.as_slice(), id)
+    }
+
+    /// A copy of the family that has this id.
+    pub(crate) fn copy_family(&self, id: u32) -> Result<Option<RankedFamily>, Memory>
+        ensures { IfOk result (λ copy. copy ≡ find (has_id id) self.now.families) }
+    {
+        let families = self.version.families.as_slice();
+        let rankings = self.rankings.as_slice();
+        match place_of_family(families, id) {
+            Ok(place) => Ok(Some(RankedFamily::copy_of(
+                self.alloc,
+                &families[place],
+                &rankings[place],
+            )?)),
+            Err(_) => Ok(None),
+        }
+    }
+
+    /// Of the tracked logs, those that the edit speaks of, which tracks these.
+    pub(crate) fn keep_logs(
+        &self,
+        view: &EditView<'_>,
+        tracks: &[u64],
+    ) -> Result<Seq<Tracked>, Memory>
+        ensures { IfOk result (λ kept. kept ≡ filter (λ tracked. nat_lt tracked.log (least_kept view.now)) self.now.wals ++ found_all (λ tracked. tracked.log) self.now.wals tracks.now) }
+    {
+        logs::keep_logs(
+            self.alloc,
+            self.version.wals.as_slice(),
+            view.copy(),
+            tracks,
+        )
     }
 
     /// With one more family, whose id none has, and which has no files.
@@ -249,6 +305,72 @@ impl Draft {
             }
             Err(Memory) => Err(ApplyFault::Memory),
         }
+    }
+}
+
+impl Draft {
+    /// With a copy of the family, which takes the place of one that has its id.
+    pub(crate) fn with_live(self, family: &RankedFamily) -> Result<Draft, Memory>
+        ensures { IfOk result (λ more. more ≡ with_families (put (λ live. live.id) family.now) self) }
+    {
+        let Draft {
+            alloc,
+            mut version,
+            rankings,
+        } = self;
+        let (live, ranking) = family.copy(alloc)?.into_parts();
+        let families = mem::replace(&mut version.families, Seq::new(alloc));
+        let rankings = rankings::with_live(rankings, families.as_slice(), &live, ranking)?;
+        version.families = families::with_live(families, live)?;
+        Ok(Draft {
+            alloc,
+            version,
+            rankings,
+        })
+    }
+
+    /// With the family that has this id as it was before an edit of which this is kept.
+    pub(crate) fn with_family_before(self, id: u32, kept: &KeptFiles) -> Result<Draft, Memory>
+        ensures { IfOk result (λ before. before ≡ with_family id (family_before kept.now) self) }
+    {
+        let Draft {
+            alloc,
+            mut version,
+            rankings,
+        } = self;
+        let families = mem::replace(&mut version.families, Seq::new(alloc));
+        let (families, rankings) = restore::with_family_before(
+            alloc, families, rankings, id, kept,
+        )?;
+        version.families = families;
+        Ok(Draft {
+            alloc,
+            version,
+            rankings,
+        })
+    }
+
+    /// With the numbers and the tracked logs as they were before an edit of which this is kept.
+    pub(crate) fn with_numbers_before(self, kept: &KeptEdit) -> Result<Draft, Memory>
+        ensures { IfOk result (λ before. before ≡ numbers_before kept.now self) }
+    {
+        let Draft {
+            alloc,
+            mut version,
+            rankings,
+        } = self;
+        version.log_seen = kept.log_seen;
+        version.next_file = kept.next_file;
+        version.last_sequence = kept.last_sequence;
+        version.least_log = kept.least_log;
+        version.greatest_family = kept.greatest_family;
+        let wals = mem::replace(&mut version.wals, Seq::new(alloc));
+        version.wals = logs::logs_before(wals, kept.tracks.as_slice(), kept.wals.as_slice())?;
+        Ok(Draft {
+            alloc,
+            version,
+            rankings,
+        })
     }
 }
 

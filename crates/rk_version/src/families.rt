@@ -1,7 +1,9 @@
 //! The live families of a version, in rising id.
-ghost use Rattle.std.specs.Prelude.{◌≡◌, ◌==◌, ◌&&◌, false, not, filter, max, map, if◌then◌else◌, List, IfOk};
+ghost use Rattle.std.specs.Prelude.{◌≡◌, ◌==◌, ◌&&◌, false, not, filter, find, max, map, if◌then◌else◌, List, IfOk};
 ghost use Rattle.std.specs.List.{AllByRecursion, list_any};
+ghost use Rattle.std.specs.Option.{option_copied, ForSome};
 ghost use Rattle.rk_bytes.specs.Model.Manifest.{has_id, has_name, has_number, add_family, drop_family, add_meta};
+ghost use Rattle.rk_version.specs.Keyed.{put};
 ghost use Rattle.rk_version.specs.Places.{Rises};
 ghost use Rattle.rk_version.specs.Bounds.{HasFilesInOrder};
 
@@ -17,6 +19,19 @@ pub(crate) fn has_id(families: &[FamilyState], id: u32) -> bool
     ensures { result ≡ list_any (has_id id) families.now }
 {
     place_of_family(families, id).is_ok()
+}
+
+/// The family that has this id.
+pub(crate) fn find_family<'a>(families: &'a [FamilyState], id: u32) -> Option<&'a FamilyState>
+    requires ids { Rises (λ live. live.id) families.now }
+    requires files { AllByRecursion HasFilesInOrder families.now }
+    ensures found { option_copied result ≡ find (has_id id) families.now }
+    ensures order { ForSome (option_copied result) HasFilesInOrder }
+{
+    match place_of_family(families, id) {
+        Ok(place) => Some(&families[place]),
+        Err(_) => None,
+    }
 }
 
 /// Whether a family has this name.
@@ -142,4 +157,20 @@ pub(crate) fn with_log(families: Seq<FamilyState>, id: u32, log: u64) -> Seq<Fam
         live.log = live.log.max(log);
     }
     Seq::from_vec(families)
+}
+
+/// The families with this one, which takes the place of one that has its id.
+pub(crate) fn with_live(
+    families: Seq<FamilyState>,
+    live: FamilyState,
+) -> Result<Seq<FamilyState>, Memory>
+    requires { Rises (λ live. live.id) families }
+    ensures { IfOk result (λ more. more ≡ put (λ live. live.id) live families) }
+{
+    let mut families = families.into_vec();
+    match place_of_family(&families, live.id) {
+        Ok(place) => families[place] = live,
+        Err(place) => families.insert(place, live)?,
+    }
+    Ok(Seq::from_vec(families))
 }

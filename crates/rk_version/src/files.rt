@@ -2,11 +2,14 @@
 ghost use Rattle.std.specs.Prelude.{◌≡◌, ◌==◌, ◌&&◌, false, not, filter, IfOk};
 ghost use Rattle.std.specs.List.{list_any};
 ghost use Rattle.rk_bytes.specs.Model.Manifest.{has_number, add_meta};
+ghost use Rattle.rk_version.specs.Keyed.{found_all};
 ghost use Rattle.rk_version.specs.Places.{Rises};
 
 use crate::FileMeta;
+use crate::copy::copy_file;
 use crate::place::place_of_file;
 use rk_bytes::{Memory, Seq};
+use std::alloc::Global;
 
 /// Whether one of the files has this number.
 pub(crate) fn has_file(files: &[FileMeta], number: u64) -> bool
@@ -51,4 +54,22 @@ pub(crate) fn without_file(files: Seq<FileMeta>, number: u64) -> Seq<FileMeta>
         files.remove(place);
     }
     Seq::from_vec(files)
+}
+
+/// Copies of the files that have these numbers, one for each number that a file has.
+pub(crate) fn copy_found(
+    alloc: Global,
+    files: &[FileMeta],
+    numbers: &[u64],
+) -> Result<Seq<FileMeta>, Memory>
+    requires { Rises (λ file. file.number) files.now }
+    ensures { IfOk result (λ found. found ≡ found_all (λ file. file.number) files.now numbers.now) }
+{
+    let mut found = Seq::new(alloc);
+    for number in numbers {
+        if let Ok(place) = place_of_file(files, *number) {
+            found.push(copy_file(alloc, &files[place])?)?;
+        }
+    }
+    Ok(found)
 }

@@ -3,6 +3,7 @@ ghost use Rattle.std.specs.Prelude.{◌≡◌, ◌==◌, ◌&&◌, false, not, f
 ghost use Rattle.std.specs.List.{AllByRecursion, list_any, list_all};
 ghost use Rattle.rk_bytes.specs.Model.Manifest.{has_id, has_number, add_family, drop_family, add_meta};
 ghost use Rattle.rk_version.specs.Bounds.{HasWholeBounds, HasFilesInOrder};
+ghost use Rattle.rk_version.specs.Keyed.{put};
 ghost use Rattle.rk_version.specs.Places.{Rises};
 ghost use Rattle.rk_version.specs.Rankings.{ranking_of, rankings_of};
 
@@ -112,4 +113,24 @@ pub(crate) fn without_file(
         *kept = ranking.without_file(&families[place], number);
     }
     Seq::from_vec(rankings)
+}
+
+/// The rankings with the one of this family, which takes the place of one that has its id.
+pub(crate) fn with_live(
+    rankings: Seq<Ranking>,
+    families: &[FamilyState],
+    live: &FamilyState,
+    ranking: Ranking,
+) -> Result<Seq<Ranking>, Memory>
+    requires ids { Rises (λ live. live.id) families.now }
+    requires kept { rankings ≡ rankings_of families.now }
+    requires own { ranking ≡ ranking_of live.now.files }
+    ensures { IfOk result (λ more. more ≡ rankings_of (put (λ live. live.id) live.now families.now)) }
+{
+    let mut rankings = rankings.into_vec();
+    match place_of_family(families, live.id) {
+        Ok(place) => rankings[place] = ranking,
+        Err(place) => rankings.insert(place, ranking)?,
+    }
+    Ok(Seq::from_vec(rankings))
 }

@@ -154,8 +154,8 @@ fn add_file(alloc: Global, draft: Draft, id: u32, file: AddFile<'_>) -> Result<D
     }
 }
 
-/// What a version lists of an added file.
-fn meta_of(alloc: Global, file: AddFile<'_>) -> Result<FileMeta, Memory>
+/// What a version lists of an added file. `Memory` comes only where memory runs out.
+pub fn meta_of(alloc: Global, file: AddFile<'_>) -> Result<FileMeta, Memory>
     ensures { IfOk result (λ meta. meta ≡ file_meta (new_file file.entry)) }
 {
     Ok(FileMeta {

@@ -169,3 +169,66 @@ fn numbers_and_logs_count(rt: HostRuntime) -> Result<(), Fail> {
     assert_eq!(rt; version.wals.as_slice(), [tracked].as_slice());
     Ok(())
 }
+
+/// The version has what the manifest of a new database states, and no table.
+fn assert_new_database<R: Abort>(rt: &R, version: &Version) {
+    assert_eq!(rt; version.next_file, Some(4));
+    assert_eq!(rt; version.last_sequence, Some(0));
+    assert_eq!(rt; log_of(version, 0), Some(3));
+    assert_eq!(rt; log_of(version, 3), None);
+    assert_eq!(rt; level_of(version, 4), None);
+    assert!(rt; version.wals.as_slice().is_empty());
+}
+
+/// A unit with this edit is applied to the builder of a new database, and taken back.
+fn assert_taken_back<R: Abort>(
+    rt: &R,
+    builder: &mut VersionBuilder,
+    alloc: Global,
+    edit: &[u8],
+) -> Result<(), Fail> {
+    let unit = unit_of(alloc, &[edit])?;
+    match builder.apply_undo(&unit) {
+        Ok(undo) => assert!(rt; builder.undo(undo).is_ok()),
+        Err(_) => return Err(Fail::new("the unit isn't applied")),
+    }
+    assert_new_database(rt, builder.version());
+    Ok(())
+}
+
+#[test]
+fn units_are_taken_back(rt: HostRuntime) -> Result<(), Fail> {
+    let alloc = rt.alloc();
+    let mut builder = VersionBuilder::new(alloc)?;
+    let first = b"\x01\x1aleveldb.BytewiseComparator\x02\x03\x03\x04\x04\0";
+    assert_eq!(rt; answer(&mut builder, alloc, &[first])?, Ok(()));
+    let b = &mut builder;
+    let table_4 =
+        b"\x02\x09\x03\x0A\x04\x05\x07\0\x04\x64\x09a\x01\x05\0\0\0\0\0\0\x09c\x01\x05\0\0\0\0\0\0";
+    assert_taken_back(&rt, b, alloc, table_4)?;
+    let family_3 =
+        b"\xC8\x01\x03\xC9\x01\x01x\x07\0\x04\x64\x09a\x01\x05\0\0\0\0\0\0\x09c\x01\x05\0\0\0\0\0\0";
+    assert_taken_back(&rt, b, alloc, family_3)?;
+    assert_taken_back(&rt, b, alloc, b"\x87\x40\x02\x05\x01\x88\x40\x01\x04")
+}
+
+#[test]
+fn a_dropped_family_and_a_deleted_table_come_back(rt: HostRuntime) -> Result<(), Fail> {
+    let alloc = rt.alloc();
+    let mut builder = VersionBuilder::new(alloc)?;
+    let family_3 =
+        b"\xC8\x01\x03\xC9\x01\x01x\x07\x05\x09\x64\x09a\x01\x05\0\0\0\0\0\0\x09c\x01\x05\0\0\0\0\0\0";
+    assert_eq!(rt; answer(&mut builder, alloc, &[TABLE_7, family_3])?, Ok(()));
+    let unit = unit_of(alloc, &[b"\x06\x01\x07", b"\xC8\x01\x03\xCA\x01"])?;
+    match builder.apply_undo(&unit) {
+        Ok(undo) => {
+            assert_eq!(rt; level_of(builder.version(), 7), None);
+            assert_eq!(rt; level_of(builder.version(), 9), None);
+            assert!(rt; builder.undo(undo).is_ok());
+        }
+        Err(_) => return Err(Fail::new("the unit isn't applied")),
+    }
+    assert_eq!(rt; level_of(builder.version(), 7), Some(1));
+    assert_eq!(rt; level_of(builder.version(), 9), Some(5));
+    Ok(())
+}
