@@ -1,5 +1,5 @@
--- What records of logs make of a state, one after another.
-use Rattle.std.proofs.Common.{◌≡◌, ℕ, ◌≤◌, cond, List, [], ◌∷◌, ◌++◌, map, filter, None, refl, sym, ap, ◌∙◌, append_assoc, append-nil, arith}
+-- What records of logs make of a state.
+use Rattle.std.proofs.Common.{◌≡◌, ℕ, ◌≤◌, cond, List, [], ◌∷◌, ◌++◌, map, filter, None, refl, sym, ap, ◌∙◌, append-nil, arith}
 use Rattle.std.specs.Prelude.{flat_map, fold, max}
 use Rattle.std.specs.List.{All}
 use Rattle.std.proofs.lemmas.List.{map-append}
@@ -12,12 +12,12 @@ use Rattle.rk_bytes.specs.declared.model.view.Tomb.{Tomb}
 use Rattle.rk_bytes.specs.Model.InternalKey.{top_sequence}
 use Rattle.rk_bytes.specs.Model.KeyView.{State, is_point, tomb_of}
 use Rattle.rk_bytes.specs.Model.Opening.{TableFile, greatest_sequence, log_tombs, state_with, table_records, table_tombs}
-use Rattle.rk_bytes.specs.Model.Records.{RecordMap, last_records, over}
+use Rattle.rk_bytes.specs.Model.Records.{last_records, over}
 use Rattle.rk_bytes.specs.Model.TableStatus.{is_range_deletion}
-use Rattle.rk_view.specs.Kept.{tombs_of, with_record}
+use Rattle.rk_view.specs.Kept.{tombs_of, with_replayed}
 use Rattle.rk_open.specs.Logged.{with_logged}
 use Rattle.rk_open.specs.Opened.{IsTopOf}
-use Rattle.rk_open.proofs.RecordLemmas.{last_records-append, over-assoc, over-none, max_from, greatest-append, greatest_fits}
+use Rattle.rk_open.proofs.RecordLemmas.{last_records-append, max_from, greatest-append, greatest_fits}
 
 -- the range deletion of one record
 one_tomb : (r : Record) → log_tombs (r ∷ []) ≡ tombs_of None r
@@ -34,19 +34,13 @@ log_tombs-append : (a b : List Record) → log_tombs (a ++ b) ≡ log_tombs a ++
 log_tombs-append a b =
     ap (map (tomb_of None)) (filter-append (λ r. is_range_deletion r.kind) a b) ∙ map-append (tomb_of None) (filter (λ r. is_range_deletion r.kind) a) (filter (λ r. is_range_deletion r.kind) b)
 
--- a state of these families with other records and range deletions
-abbrev kept_as : State → RecordMap → List Tomb → State
-kept_as state records tombs = record { families = state.families; records = records; tombs = tombs }
+-- the range deletions of all records
+each_tomb : (records : List Record) → flat_map (tombs_of None) records ≡ log_tombs records
+each_tomb [] = refl
+each_tomb (r ∷ records) = (λ i. sym (one_tomb r) i ++ each_tomb records i) ∙ sym (log_tombs-append (r ∷ []) records)
 
-pub logged-none : (state : State) → with_logged [] state ≡ state
-logged-none state = ap (λ records. kept_as state records (state.tombs ++ [])) (over-none state.records) ∙ ap (kept_as state state.records) (append-nil state.tombs)
-
-pub logged-more : (records : List Record) (r : Record) (state : State) → with_record None r (with_logged records state) ≡ with_logged (records ++ r ∷ []) state
-logged-more records r state =
-    let tombs = (state.tombs ++ log_tombs records) ++ tombs_of None r in
-    ap (λ all. kept_as state all tombs) (over-assoc state.records (last_records records) (last_records (r ∷ [])) ∙ ap (over state.records) (sym (last_records-append records (r ∷ []))))
-    ∙ ap (kept_as state (over state.records (last_records (records ++ r ∷ []))))
-    (append_assoc state.tombs (log_tombs records) (tombs_of None r) ∙ ap (λ more. state.tombs ++ more) (ap (λ one. log_tombs records ++ one) (sym (one_tomb r)) ∙ sym (log_tombs-append records (r ∷ []))))
+pub logged-replayed : (records : List Record) (state : State) → with_replayed records state ≡ with_logged records state
+logged-replayed records state = ap (λ (tombs : List Tomb). record { families = state.families; records = over state.records (last_records records); tombs = state.tombs ++ tombs }) (each_tomb records)
 
 -- the state of families, tables and logs, where that without logs is given
 pub logged-told : (state : State) (lines : List FamilyLine) (tables : List TableFile) (records : List Record) → state ≡ state_with lines tables [] → with_logged records state ≡ state_with lines tables records

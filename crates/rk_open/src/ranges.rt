@@ -15,27 +15,21 @@ use rk_tomb::Cut;
 use rk_view::State;
 use std::alloc::Global;
 
-/// Adds the range deletions of a table to a state, and makes room for so many more runs where there are any.
+/// Adds the range deletions of a table to a state.
 pub(crate) fn add_ranges(
     alloc: Global,
     listed: &ListedTable<'_>,
     ranges: &[RangeDel],
-    runs: usize,
     state: &mut State,
 ) -> Result<(), Memory>
     requires bounds { HasWholeBounds listed.now.file.now }
     requires sequences { AreBelowTop ranges.now }
-    requires spare { runs ≤ state.old.spare }
-    ensures ranges { OnOk result (Adds (map (range_record listed.now.family) ranges.now) (cut_ranges (listed_of listed.now) ranges.now) state.old.state state.new.state) }
-    ensures spare { OnOk result (runs ≤ state.new.spare) }
+    ensures { OnOk result (Adds (map (range_record listed.now.family) ranges.now) (cut_ranges (listed_of listed.now) ranges.now) state.old.state state.new.state) }
 {
-    if ranges.is_empty() {
-        return Ok(());
-    }
     for range in ranges {
         add_range(alloc, listed, range, state)?;
     }
-    state.reserve_runs(runs)
+    Ok(())
 }
 
 /// Adds one range deletion of a table to a state.

@@ -52,7 +52,7 @@ fn add_family(state: &mut State, live: &FamilyState) -> Result<(), Memory>
 }
 
 /// Adds the records of logs, in their order. Gives the greatest of their sequence numbers and of `top`, which is
-/// that of the records before them. Where memory runs out, some of them are added.
+/// that of the records before them. `Memory` comes only where memory runs out.
 pub(crate) fn add_replayed(state: &mut State, records: Seq<Record>, top: u64) -> Result<u64, Memory>
     requires sequences { All (λ (r : Stored). r.sequence ≤ top_sequence) records }
     ensures state { OnOk result (state.new.state ≡ with_logged records state.old.state) }
@@ -61,7 +61,7 @@ pub(crate) fn add_replayed(state: &mut State, records: Seq<Record>, top: u64) ->
     ensures bound { IsTopOf top state.old.state → IfOk result (λ top. IsTopOf top state.new.state) }
 {
     let greatest = greatest_with(top, records.as_slice());
-    add_records(state, records.into_vec())?;
+    state.add_records(records)?;
     Ok(greatest)
 }
 
@@ -74,15 +74,4 @@ fn greatest_with(top: u64, records: &[Record]) -> u64
         top = top.max(record.sequence);
     }
     top
-}
-
-/// Adds the records of logs, in their order.
-fn add_records(state: &mut State, records: Vec<Record>) -> Result<(), Memory>
-    requires sequences { All (λ (r : Stored). r.sequence ≤ top_sequence) records.items }
-    ensures { OnOk result (state.new.state ≡ with_logged records.items state.old.state) }
-{
-    for record in records {
-        state.add_record(record, None)?;
-    }
-    Ok(())
 }

@@ -46,34 +46,28 @@ pub(crate) fn add_tables<D: Disk>(
     let Ok(tables) = sorted_tables(alloc, version.families.as_slice()) else {
         return Err(OpenErr::Memory);
     };
-    if state.reserve_runs(tables.len()).is_err() {
-        return Err(OpenErr::Memory);
-    }
     match add_each(alloc, disk, tables.as_slice(), &mut state) {
         Ok(top) => Ok(Loaded { state, top }),
         Err(why) => Err(why),
     }
 }
 
-/// Adds the tables to a state that has room for a run of each, and gives the greatest sequence number of a record in
-/// them.
+/// Adds the tables to a state, and gives the greatest sequence number of a record in them.
 fn add_each<D: Disk>(
     alloc: Global,
     disk: &mut D,
     tables: &[ListedTable<'_>],
     state: &mut State,
 ) -> Result<u64, OpenErr>
-    requires bounds { AllByRecursion (λ table. HasWholeBounds table.file.now) tables.now }
-    requires spare { length tables.now ≤ state.old.spare }
+    requires { AllByRecursion (λ table. HasWholeBounds table.file.now) tables.now }
     ensures tables { MatchResult result (AddsTables (contents_told (D.told disk.old)) (map listed_of tables.now) state.old.state state.new.state)
         (λ why. IfSome (contents_told (D.told disk.old)) (λ d. RefusesAs (collected (table_file (get d)) (map listed_of tables.now)) why)) }
     ensures faults { Counts (open_failed result) (D.faults disk.old) (D.faults disk.new) }
     ensures left { IsLeft (D.told disk.old) (D.told disk.new) }
 {
     let mut top = 0;
-    for (index, table) in tables.iter().enumerate() {
-        let more = tables.len() - index - 1;
-        match add_table(alloc, disk, table, more, state) {
+    for table in tables {
+        match add_table(alloc, disk, table, state) {
             Ok(own) => top = top.max(own),
             Err(why) => return Err(why),
         }
@@ -81,25 +75,21 @@ fn add_each<D: Disk>(
     Ok(top)
 }
 
-/// Adds a table to a state that has room for its run and so many more, and gives the greatest sequence number of a
-/// record in it. There is then room for these runs.
+/// Adds a table to a state, and gives the greatest sequence number of a record in it.
 fn add_table<D: Disk>(
     alloc: Global,
     disk: &mut D,
     listed: &ListedTable<'_>,
-    runs: usize,
     state: &mut State,
 ) -> Result<u64, OpenErr>
-    requires bounds { HasWholeBounds listed.now.file.now }
-    requires spare { runs + 1 ≤ state.old.spare }
+    requires { HasWholeBounds listed.now.file.now }
     ensures table { MatchResult result (AddsTable (contents_told (D.told disk.old)) (listed_of listed.now) state.old.state state.new.state)
         (λ why. IfSome (contents_told (D.told disk.old)) (λ d. RefusesAs (table_file (get d) (listed_of listed.now)) why)) }
-    ensures spare { IfOk result (λ _. runs ≤ state.new.spare) }
     ensures faults { Counts (open_failed result) (D.faults disk.old) (D.faults disk.new) }
     ensures left { IsLeft (D.told disk.old) (D.told disk.new) }
 {
     match open_table(alloc, disk, listed) {
-        Ok(mut table) => add_open(alloc, disk, listed, &mut table, runs, state),
+        Ok(mut table) => add_open(alloc, disk, listed, &mut table, state),
         Err(why) => Err(why),
     }
 }
@@ -110,16 +100,13 @@ fn add_open<D: Disk>(
     disk: &mut D,
     listed: &ListedTable<'_>,
     table: &mut OpenTable,
-    runs: usize,
     state: &mut State,
 ) -> Result<u64, OpenErr>
     requires bounds { HasWholeBounds listed.now.file.now }
     requires opened { IfSome (contents_told (D.told disk.old)) (λ d. IsListed d (listed_of listed.now) table.old) }
     requires sequences { HasSequences table.old }
-    requires spare { runs + 1 ≤ state.old.spare }
     ensures table { MatchResult result (AddsTable (contents_told (D.told disk.old)) (listed_of listed.now) state.old.state state.new.state)
         (λ why. IfSome (contents_told (D.told disk.old)) (λ d. RefusesAs (table_file (get d) (listed_of listed.now)) why)) }
-    ensures spare { IfOk result (λ _. runs ≤ state.new.spare) }
     ensures faults { Counts (open_failed result) (D.faults disk.old) (D.faults disk.new) }
     ensures left { IsLeft (D.told disk.old) (D.told disk.new) }
 {
@@ -127,8 +114,11 @@ fn add_open<D: Disk>(
         Ok(run) => {
             let ranges = table.table().ranges.as_slice();
             let top = greatest_with(greatest_sequence(run.as_slice()), ranges);
+            if state.reserve_runs(1).is_err() {
+                return Err(OpenErr::Memory);
+            }
             state.add_run(run);
-            match add_ranges(alloc, listed, ranges, runs, state) {
+            match add_ranges(alloc, listed, ranges, state) {
                 Ok(()) => Ok(top),
                 Err(_) => Err(OpenErr::Memory),
             }

@@ -119,9 +119,6 @@ one_first p at (Some r) (Some s) x y =
 or_some : {A : Type 0} (o p : Option A) (x : A) → o ≡ Some x → option_or o p ≡ Some x
 or_some o p x e = ap (λ a. option_or a p) e
 
-or_none : {A : Type 0} (o p : Option A) → o ≡ None → option_or o p ≡ p
-or_none o p e = ap (λ a. option_or a p) e
-
 gt_less : (o : Ordering) → is_gt (ordering_reverse o) ≡ true → is_gt o ≡ false
 gt_less Less e = refl
 gt_less Equal e = cc
@@ -187,7 +184,7 @@ module _ (p : Record → Bool) (of_slots : IsOfSlots p) (a b : RecordMap) (a_own
         λ q z found passes. either q z found _ (λ in_b. y.2 q z in_b passes) (λ in_a. upto slot_cmp-total (slot_of s) (slot_of r) (slot_of z) upto_r (x.2 q z in_a passes)),
       )
 
-own_run : (run : List Record) → InOwnSlots (λ q. find_in slot_cmp q (map entry_of run))
+pub own_run : (run : List Record) → InOwnSlots (λ q. find_in slot_cmp q (map entry_of run))
 own_run [] q x found = cc
 own_run (r ∷ run) q x found = by (own_run run q x) (eq_by_cmp slot_cmp q (slot_of r)) refl found
   where
@@ -222,7 +219,7 @@ held-more runs run q =
     ∙ ap (λ o. is_some (get (map_of runs) q) || is_some o) (get-run_map run q)
 
 -- what the runs hold is found in its own slot
-own_entries : (runs : List (List Record)) → InOwnSlots (λ q. find_in slot_cmp q (flat_map (λ run. map entry_of run) runs))
+pub own_entries : (runs : List (List Record)) → InOwnSlots (λ q. find_in slot_cmp q (flat_map (λ run. map entry_of run) runs))
 own_entries [] q x found = cc
 own_entries (run ∷ runs) q x found = by (find_in slot_cmp q (map entry_of run)) refl (sym (find-append q (map entry_of run) _) ∙ found) (own_entries runs q x)
   where
@@ -238,11 +235,6 @@ own_map_of runs q x found = own_entries (reverse runs) q x (sym (get-from_entrie
 -- what comes after a place does so by its slot
 pub after_of_slots : (family : ℕ) (user : List ℕ) (below : ℕ) → IsOfSlots (is_after family user below)
 after_of_slots family user below r s same = after_rises family user below r s (ap is_gt (ap (slot_cmp (slot_of r)) (sym same) ∙ tied_itself slot_cmp-total (slot_of r)))
-
--- the first record after a place, with one more run
-pub first_after-more : (family : ℕ) (user : List ℕ) (below : ℕ) (runs : List (List Record)) (run : List Record) → Rises run
-    → find (is_after family user below) (values (map_of (runs ++ run ∷ []))) ≡ first_of (find (is_after family user below) (values (map_of runs))) (find (is_after family user below) run)
-first_after-more family user below runs run rises = first-more (is_after family user below) (after_of_slots family user below) runs (own_map_of runs) run rises
 
 -- no runs hold anything
 pub values-none : values (map_of []) ≡ []

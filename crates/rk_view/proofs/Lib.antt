@@ -1,5 +1,6 @@
 mod SlotOrder
 mod RunLemmas
+mod SeekLemmas
 mod MapLemmas
 mod FirstLemmas
 mod RunsLemmas
@@ -7,6 +8,13 @@ mod TableLemmas
 mod ValuesLemmas
 mod ViewLemmas
 mod DecideLemmas
+mod SourceLemmas
+mod NextLemmas
 mod WalkLemmas
+mod RowLemmas
 mod MergeLemmas
+mod AttachLemmas
+mod SortLemmas
+mod PartLemmas
+mod CursorLemmas
 mod FamilyLemmas

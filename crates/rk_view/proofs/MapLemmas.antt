@@ -1,13 +1,13 @@
 -- Record maps that are made up of runs.
-use Rattle.std.proofs.Common.{◌≡◌, Bool, true, false, cond, T, List, [], ◌∷◌, ◌++◌, map, refl, sym, ap, subst, ◌∙◌}
+use Rattle.std.proofs.Common.{◌≡◌, Bool, true, false, cond, List, [], ◌∷◌, ◌++◌, map, refl, sym, ap, ◌∙◌}
 use Rattle.std.proofs.lemmas.List.{reverse-append}
 use Rattle.std.specs.Prelude.{Option, Some, None, flat_map}
 use Rattle.std.specs.Option.{option_or}
 use Rattle.std.specs.Ordering.{eq_by_cmp}
-use Rattle.std.specs.FinMap.{entries, entries_sorted, values, get, insert, get-entries, get-from_entries, get-insert, same_map, entries-insert}
-use Rattle.std.specs.FinMap.Entries.{find as find_in, put, is_sorted, is_sorted-put, same_entries}
+use Rattle.std.specs.FinMap.{entries, entries_sorted, values, get, insert, get-entries, get-from_entries, get-insert, same_map}
+use Rattle.std.specs.FinMap.Entries.{find as find_in, same_entries}
 use Rattle.rk_bytes.specs.declared.model.key.Record.{Record}
-use Rattle.rk_bytes.specs.Model.Records.{Slot, RecordMap, slot_cmp, slot_cmp-total, slot_of, entry_of, last_records, over, find-append, get-last_records, get-over}
+use Rattle.rk_bytes.specs.Model.Records.{Slot, RecordMap, slot_cmp, slot_cmp-total, entry_of, over, find-append, get-over}
 use Rattle.rk_view.specs.Maps.{entries_of, map_of}
 use Rattle.rk_view.proofs.SlotOrder.{slot_cmp-only_equal}
 use Rattle.rk_view.proofs.RunLemmas.{Rises}
@@ -61,18 +61,3 @@ over-insert a b k r = same_records (over a (insert b k r)) (insert (over a b) k 
     get-over a (insert b k r) q ∙ ap (λ o. option_or o (get a q)) (get-insert slot_cmp-total b k r q)
     ∙ or_cond (eq_by_cmp slot_cmp q k) r (get b q) (get a q) ∙ ap (cond (eq_by_cmp slot_cmp q k) (Some r)) (sym (get-over a b q))
     ∙ sym (get-insert slot_cmp-total (over a b) k r q))
-
--- a record that is put into a run
-pub run_map-put : (run new : List Record) (r : Record) → Rises run → map entry_of new ≡ put slot_cmp (slot_of r) r (map entry_of run) → run_map new ≡ insert (run_map run) (slot_of r) r
-run_map-put run new r rises e = same_records (run_map new) (insert (run_map run) (slot_of r) r) (λ q.
-    get-run_map new q ∙ ap (find_in slot_cmp q) (e ∙ ap (put slot_cmp (slot_of r) r) (sym (entries-run_map run rises)) ∙ sym (entries-insert slot_cmp-total (run_map run) (slot_of r) r))
-    ∙ sym (get-entries (insert (run_map run) (slot_of r) r) q))
-
-pub rises-put : (run new : List Record) (r : Record) → Rises run → map entry_of new ≡ put slot_cmp (slot_of r) r (map entry_of run) → Rises new
-rises-put run new r rises e = subst (λ es. T (is_sorted slot_cmp es)) (sym e) (is_sorted-put slot_cmp slot_cmp-total (slot_of r) r (map entry_of run) rises)
-
--- one record over a map
-pub over-one : (m : RecordMap) (r : Record) → over m (last_records (r ∷ [])) ≡ insert m (slot_of r) r
-over-one m r = same_records (over m (last_records (r ∷ []))) (insert m (slot_of r) r) (λ q.
-    get-over m (last_records (r ∷ [])) q ∙ ap (λ o. option_or o (get m q)) (get-last_records (r ∷ []) q)
-    ∙ or_cond (eq_by_cmp slot_cmp q (slot_of r)) r None (get m q) ∙ sym (get-insert slot_cmp-total m (slot_of r) r q))

@@ -1,8 +1,8 @@
 -- Two runs become one, record by record.
-use Rattle.std.proofs.Common.{◌≡◌, ◌≤◌, Bool, true, false, cond, T, List, [], ◌∷◌, ◌++◌, map, reverse, drop, refl, sym, ap, subst, ◌∙◌}
-use Rattle.std.proofs.lemmas.List.{reverse-append, map-append}
-use Rattle.std.specs.Prelude.{Option, Some, None, ◌&&◌, slice_get}
-use Rattle.std.specs.Option.{option_or, option_to_list}
+use Rattle.std.proofs.Common.{◌≡◌, ◌+◌, ◌<◌, ◌≤◌, length, arith, Bool, true, false, cond, T, List, [], ◌∷◌, ◌++◌, map, refl, sym, ap, subst, ◌∙◌}
+use Rattle.std.proofs.lemmas.List.{map-append}
+use Rattle.std.specs.Prelude.{Option, Some, None, ◌&&◌}
+use Rattle.std.specs.Option.{option_or}
 use Rattle.std.specs.List.{AllByRecursion}
 use Rattle.std.specs.declared.cmp.Ordering.{Ordering}
 use Rattle.std.specs.declared.cmp.Ordering.TheVariants.{Less, Equal, Greater}
@@ -11,38 +11,34 @@ use Rattle.std.specs.FinMap.Entries.{find as find_in, below_all}
 use Rattle.rk_bytes.specs.declared.model.key.Record.{Record}
 use Rattle.rk_bytes.specs.Model.InternalKey.{top_sequence}
 use Rattle.rk_bytes.specs.Model.Records.{Slot, slot_cmp, slot_cmp-total, slot_of, entry_of, over, find-append, get-over}
-use Rattle.rk_view.specs.Maps.{IsRun, run_map}
+use Rattle.rk_view.specs.Maps.{IsRun, look, run_map}
 use Rattle.rk_view.specs.Merged.{taken, first_taken}
 use Rattle.rk_view.proofs.SlotOrder.{slot_cmp-only_equal}
 use Rattle.rk_view.proofs.RunLemmas.{both_true, lt-Less}
 use Rattle.rk_view.proofs.MapLemmas.{same_records, get-run_map, or_assoc, or_cond}
 use Rattle.rk_view.proofs.RunsLemmas.{or_one, tied_none}
 
--- a look-up in a run
-abbrev pub look : Slot → List Record → Option Record
-look q run = find_in slot_cmp q (map entry_of run)
-
 -- the slot is below all of a run
 abbrev pub IsBelow : Slot → List Record → Type 0
 IsBelow q run = T (below_all slot_cmp q (map entry_of run))
 
-both : (a b : Bool) → T a → T b → T (a && b)
+pub both : (a b : Bool) → T a → T b → T (a && b)
 both true b s t = t
 both false b s t = absurd s
 
-less_lt : (o : Ordering) → o ≡ Less → T (is_lt o)
+pub less_lt : (o : Ordering) → o ≡ Less → T (is_lt o)
 less_lt o e = subst (λ x. T (is_lt x)) (sym e) tt
 
-below_less : (p q : Slot) (run : List Record) → slot_cmp p q ≡ Less → IsBelow q run → IsBelow p run
+pub below_less : (p q : Slot) (run : List Record) → slot_cmp p q ≡ Less → IsBelow q run → IsBelow p run
 below_less p q [] less below = tt
 below_less p q (r ∷ run) less below =
     let parts = both_true (is_lt (slot_cmp q (slot_of r))) _ below in
     both _ _ (less_lt _ (slot_cmp-total.trans p q (slot_of r) less (lt-Less _ parts.0))) (below_less p q run less parts.1)
 
-head_below : (r : Record) (run : List Record) → IsRun (r ∷ run) → IsBelow (slot_of r) run
+pub head_below : (r : Record) (run : List Record) → IsRun (r ∷ run) → IsBelow (slot_of r) run
 head_below r run is = (both_true (below_all slot_cmp (slot_of r) (map entry_of run)) _ is.rises).0
 
-tail_run : (r : Record) (run : List Record) → IsRun (r ∷ run) → IsRun run
+pub tail_run : (r : Record) (run : List Record) → IsRun (r ∷ run) → IsRun run
 tail_run r run is = record { rises = (both_true (below_all slot_cmp (slot_of r) (map entry_of run)) _ is.rises).1; numbered = is.numbered.1 }
 
 -- a record is taken out of two runs
@@ -94,7 +90,7 @@ take_both r s older younger a b tied =
       same = λ q. one_test (eq_by_cmp slot_cmp q (slot_of s)) (eq_by_cmp slot_cmp q (slot_of r)) r s (look q younger) (look q older) (ap (eq_by_cmp slot_cmp q) one);
     }
 
-same_one : (x r : Record) → Some x ≡ Some r → x ≡ r
+pub same_one : (x r : Record) → Some x ≡ Some r → x ≡ r
 same_one x r e = cc
 
 -- the record that comes first is taken
@@ -113,6 +109,18 @@ first_step (x ∷ older) (y ∷ younger) r a b e = by (slot_cmp (slot_of x) (slo
         let less : slot_cmp (slot_of y) (slot_of x) ≡ Less = slot_cmp-total.antisymm (slot_of y) (slot_of x) ∙ ap ordering_reverse is in
         let below : IsBelow (slot_of y) (x ∷ older) = both _ _ (less_lt _ less) (below_less (slot_of y) (slot_of x) older less (head_below x older a)) in
         subst (λ z. Step (x ∷ older) (y ∷ younger) z (x ∷ older) younger) (same_one y r e) (take_younger y (x ∷ older) younger a b below)
+
+-- and there are fewer left
+pub fewer_left : (older younger : List Record) (r : Record) → (first_taken older younger).0 ≡ Some r → length (first_taken older younger).1 + length (first_taken older younger).2 < length older + length younger
+fewer_left [] [] r e = cc
+fewer_left (x ∷ older) [] r e = omega arith
+fewer_left [] (y ∷ younger) r e = omega arith
+fewer_left (x ∷ older) (y ∷ younger) r e = by (slot_cmp (slot_of x) (slot_of y))
+  where
+    by : (o : Ordering) → length (taken o (x ∷ older) (y ∷ younger)).1 + length (taken o (x ∷ older) (y ∷ younger)).2 < length (x ∷ older) + length (y ∷ younger)
+    by Less = omega arith
+    by Equal = omega arith
+    by Greater = omega arith
 
 -- where none comes first, both runs are empty
 pub first_none : (older younger : List Record) → (first_taken older younger).0 ≡ None → (older ≡ []) × (younger ≡ [])
@@ -171,24 +179,10 @@ module _ (older younger r_older r_younger : List Record) (r : Record) (left_olde
             ∙ ap (option_or (look q merged)) (or_cond (eq_by_cmp slot_cmp q (slot_of r)) r None left ∙ sym (step.same q)) ∙ m.same q;
       }
 
-or_nothing : {A : Type 0} (o : Option A) → option_or o None ≡ o
+pub or_nothing : {A : Type 0} (o : Option A) → option_or o None ≡ o
 or_nothing None = refl
 or_nothing (Some x) = refl
 
 pub merging-end : (older younger merged : List Record) → Merging older younger [] [] merged → run_map merged ≡ over (run_map older) (run_map younger)
 merging-end older younger merged m = same_records (run_map merged) (over (run_map older) (run_map younger)) (λ q.
     get-run_map merged q ∙ sym (or_nothing (look q merged)) ∙ m.same q ∙ (λ i. option_or (sym (get-run_map younger q) i) (sym (get-run_map older q) i)) ∙ sym (get-over (run_map older) (run_map younger) q))
-
--- what is taken from the end of a list is first in it turned round
-pub popped : (old new : List Record) (o : Option Record) → old ≡ new ++ option_to_list o → (o ≡ None → old ≡ []) → (o ≡ slice_get (reverse old) 0) × (reverse new ≡ drop 1 (reverse old))
-popped old new None e none =
-    let nothing : old ≡ [] = none refl in
-    let rest : new ≡ [] = empty_front new (sym e ∙ nothing) in
-    (sym (ap (λ xs. slice_get (reverse xs) 0) nothing), ap reverse rest ∙ sym (ap (λ xs. drop 1 (reverse xs)) nothing))
-  where
-    empty_front : (xs : List Record) → xs ++ [] ≡ [] → xs ≡ []
-    empty_front [] e = refl
-    empty_front (x ∷ xs) e = cc
-popped old new (Some x) e none =
-    let turned : reverse old ≡ x ∷ reverse new = ap reverse e ∙ reverse-append new (x ∷ []) in
-    (sym (ap (λ xs. slice_get xs 0) turned), sym (ap (drop 1) turned))

@@ -1,12 +1,11 @@
--- Runs in turn, and what is put into them.
+-- Runs in turn, and what is counted of them.
 use Rattle.std.proofs.Common.{◌≡◌, ℕ, zero, suc, ◌+◌, ◌<◌, ◌≤◌, Bool, true, false, cond, T, List, [], ◌∷◌, ◌++◌, length, map, reverse, take, get_or, refl, sym, ap, subst, ◌∙◌, add-one, arith, length-take, length-append, get_or-take}
-use Rattle.std.proofs.Math.Seq.{take-suc, get_or-append_seam}
+use Rattle.std.proofs.Math.Seq.{take-suc}
 use Rattle.std.proofs.Math.ListN.{get_or-append}
 use Rattle.std.proofs.lemmas.List.Elements.{All-append, All-cons, All-nil}
 use Rattle.std.proofs.lemmas.List.{map-append, reverse-append}
-use Rattle.std.specs.Prelude.{◌||◌, min, if◌then◌else◌, Vec, Option, Some, None, is_some}
+use Rattle.std.specs.Prelude.{◌||◌, min, if◌then◌else◌, Option, Some, None, is_some}
 use Rattle.std.specs.Option.{option_or}
-use Rattle.std.specs.declared.alloc.Global.{Global}
 use Rattle.std.specs.List.{All, AllByRecursion}
 use Rattle.std.specs.declared.cmp.Ordering.{Ordering}
 use Rattle.std.specs.declared.cmp.Ordering.TheVariants.{Less, Equal, Greater}
@@ -16,17 +15,16 @@ use Rattle.std.specs.FinMap.Entries.{find as find_in, put, by_order, below_all}
 use Rattle.rk_bytes.specs.declared.model.key.Record.{Record}
 use Rattle.rk_bytes.specs.Model.InternalKey.{top_sequence}
 use Rattle.rk_bytes.specs.Model.Records.{Slot, RecordMap, slot_cmp, slot_cmp-total, slot_of, entry_of, slotted, last_records, over, find-append, get-last_records, get-over}
-use Rattle.rk_view.specs.Maps.{IsRun, AreNumbered, records_of, map_of}
+use Rattle.rk_view.specs.Maps.{IsRun, AreNumbered, map_of}
 use Rattle.rk_view.specs.Kept.{AreCounted, most}
 use Rattle.rk_view.proofs.SlotOrder.{slot_cmp-only_equal}
 use Rattle.rk_view.proofs.RunLemmas.{both_true, lt-Less, Rises, unheld, rises_at}
-use Rattle.rk_view.proofs.MapLemmas.{run_map, same_records, get-run_map, map_of-more, over-assoc, over-insert, run_map-put, rises-put}
+use Rattle.rk_view.proofs.MapLemmas.{run_map, same_records, get-run_map, map_of-more, over-assoc, over-insert}
 use Rattle.rk_view.proofs.FirstLemmas.{equal}
 
 -- the runs up to one, and that one
-pub records-more : (runs : List (Vec Record Global)) (i : ℕ) (run : Vec Record Global) → i < length runs → run ≡ get_or runs i run → records_of (take (i + 1) runs) ≡ records_of (take i runs) ++ run.items ∷ []
-records-more runs i run within is =
-    ap records_of (ap (λ k. take k runs) (add-one i) ∙ take-suc runs i run within ∙ ap (λ r. take i runs ++ r ∷ []) (sym is)) ∙ map-append (λ (r : Vec Record Global). r.items) (take i runs) (run ∷ [])
+pub runs-more : (runs : List (List Record)) (i : ℕ) (run : List Record) → i < length runs → run ≡ get_or runs i run → take (i + 1) runs ≡ take i runs ++ run ∷ []
+runs-more runs i run within is = ap (λ k. take k runs) (add-one i) ∙ take-suc runs i run within ∙ ap (λ r. take i runs ++ r ∷ []) (sym is)
 
 pub or_first : (a b : Bool) → a ≡ true → a ≡ (a || b)
 or_first true b e = refl
@@ -43,10 +41,6 @@ pub numbered_entries : (run : List Record) → AreNumbered run → NumberedEntri
 numbered_entries [] all = tt
 numbered_entries (r ∷ run) all = (all.0, numbered_entries run all.1)
 
-entries_numbered : (run : List Record) → NumberedEntries (map entry_of run) → AreNumbered run
-entries_numbered [] all = tt
-entries_numbered (r ∷ run) all = (all.0, entries_numbered run all.1)
-
 pub put_numbered : (q : Slot) (r : Record) (es : List (Slot × Record)) → r.sequence ≤ top_sequence → NumberedEntries es → NumberedEntries (put slot_cmp q r es)
 put_numbered q r [] here all = (here, tt)
 put_numbered q r (e ∷ es) here all = by (slot_cmp q e.0) (put_numbered q r es here all.1)
@@ -56,30 +50,7 @@ put_numbered q r (e ∷ es) here all = by (slot_cmp q e.0) (put_numbered q r es 
     by Equal later = (here, all.1)
     by Greater later = (all.0, later)
 
--- a run with one more record is one
-pub run-put : (run new : List Record) (r : Record) → IsRun run → r.sequence ≤ top_sequence → map entry_of new ≡ put slot_cmp (slot_of r) r (map entry_of run) → IsRun new
-run-put run new r is here e = record {
-  rises = rises-put run new r is.rises e;
-  numbered = entries_numbered new (subst NumberedEntries (sym e) (put_numbered (slot_of r) r (map entry_of run) here (numbered_entries run is.numbered)));
-}
-
--- a record that is put into the youngest run
-pub youngest-put : (runs : List (List Record)) (run new : List Record) (r : Record) → Rises run → map entry_of new ≡ put slot_cmp (slot_of r) r (map entry_of run) → map_of (runs ++ new ∷ []) ≡ insert (map_of (runs ++ run ∷ [])) (slot_of r) r
-youngest-put runs run new r rises e =
-    map_of-more runs new ∙ ap (over (map_of runs)) (run_map-put run new r rises e) ∙ over-insert (map_of runs) (run_map run) (slot_of r) r
-    ∙ ap (λ m. insert m (slot_of r) r) (sym (map_of-more runs run))
-
-or_none : {A : Type 0} (o : Option A) → option_or None o ≡ o
-or_none o = refl
-
--- an empty run adds nothing
-pub map_of-empty : (runs : List (List Record)) → map_of (runs ++ [] ∷ []) ≡ map_of runs
-map_of-empty runs = map_of-more runs [] ∙ same_records (over (map_of runs) (run_map [])) (map_of runs) (λ q. get-over (map_of runs) (run_map []) q ∙ ap (λ o. option_or o (get (map_of runs) q)) (get-run_map [] q))
-
-pub records-push : (runs : List (Vec Record Global)) (run : Vec Record Global) → records_of (runs ++ run ∷ []) ≡ records_of runs ++ run.items ∷ []
-records-push runs run = map-append (λ (r : Vec Record Global). r.items) runs (run ∷ [])
-
-unfound : (q : Slot) (r : Record) (run : List Record) → T (below_all slot_cmp q (map entry_of run)) → find_in slot_cmp q (map entry_of run) ≡ None
+pub unfound : (q : Slot) (r : Record) (run : List Record) → T (below_all slot_cmp q (map entry_of run)) → find_in slot_cmp q (map entry_of run) ≡ None
 unfound q r [] below = refl
 unfound q r (x ∷ run) below =
     ap (λ o. cond (is_eq o) (Some x) (find_in slot_cmp q (map entry_of run))) (lt-Less _ (both_true _ _ below).0) ∙ unfound q r run (both_true (is_lt (slot_cmp q (slot_of x))) _ below).1
@@ -142,7 +113,7 @@ pub count_up : (held : Bool) (n k : ℕ) → k ≡ min n most → (if held then 
 count_up true n k is = is
 count_up false n k is = omega (arith, is)
 
-pub counted_none : (runs : List (Vec Record Global)) → runs ≡ [] → AreCounted runs 0
+pub counted_none : (runs : List (List Record)) → runs ≡ [] → AreCounted runs 0
 unfolding map_of
 counted_none runs e = subst (λ rs. AreCounted rs 0) (sym e) (record { each = λ k d inside. absurd (omega arith); count = sym (ap (λ n. min n most) (len-empty slot_cmp Record)) })
 
@@ -151,40 +122,26 @@ pub map_of-none : map_of [] ≡ last_records []
 unfolding map_of last_records
 map_of-none = refl
 
-pub last-is : (runs rest : List (Vec Record Global)) (run : Vec Record Global) → runs ≡ rest ++ run ∷ [] → All (λ (r : Vec Record Global). IsRun r.items) runs → IsRun run.items
-last-is runs rest run e all =
-    let within : length rest < length (rest ++ run ∷ []) = omega (arith, length-append rest (run ∷ [])) in
-    let there : All (λ (r : Vec Record Global). IsRun r.items) (rest ++ run ∷ []) = subst (All (λ (r : Vec Record Global). IsRun r.items)) e all in
-    subst (λ (r : Vec Record Global). IsRun r.items) (get_or-append_seam rest run [] run) (there (length rest) run within)
-
-pub all-but : (runs rest : List (Vec Record Global)) (run new : Vec Record Global) → runs ≡ rest ++ run ∷ [] → All (λ (r : Vec Record Global). IsRun r.items) runs → IsRun new.items → All (λ (r : Vec Record Global). IsRun r.items) (rest ++ new ∷ [])
-all-but runs rest run new e all is =
-    let P = λ (r : Vec Record Global). IsRun r.items in
-    let there : All P (rest ++ run ∷ []) = subst (All P) e all in
-    All-append P rest (new ∷ []) (λ k d low. subst P (get_or-append rest (run ∷ []) d k low) (there k d (omega (arith, length-append rest (run ∷ []))))) (All-cons P new [] is (All-nil P))
-
 -- one more run
-pub all-more : (runs : List (Vec Record Global)) (run : Vec Record Global) → All (λ (r : Vec Record Global). IsRun r.items) runs → IsRun run.items → All (λ (r : Vec Record Global). IsRun r.items) (runs ++ run ∷ [])
-all-more runs run all is = let P = λ (r : Vec Record Global). IsRun r.items in All-append P runs (run ∷ []) all (All-cons P run [] is (All-nil P))
+pub all-more : (runs : List (List Record)) (run : List Record) → All (λ (r : List Record). IsRun r) runs → IsRun run → All (λ (r : List Record). IsRun r) (runs ++ run ∷ [])
+all-more runs run all is = let P = λ (r : List Record). IsRun r in All-append P runs (run ∷ []) all (All-cons P run [] is (All-nil P))
 
 -- a map with a run over it
-pub map_of-run : (runs : List (Vec Record Global)) (run : Vec Record Global) → Rises run.items → map_of (records_of (runs ++ run ∷ [])) ≡ over (map_of (records_of runs)) (last_records run.items)
-map_of-run runs run rises = ap map_of (records-push runs run) ∙ map_of-more (records_of runs) run.items ∙ ap (over (map_of (records_of runs))) (sym (last_records-run run.items rises))
+pub map_of-run : (runs : List (List Record)) (run : List Record) → Rises run → map_of (runs ++ run ∷ []) ≡ over (map_of runs) (last_records run)
+map_of-run runs run rises = map_of-more runs run ∙ ap (over (map_of runs)) (sym (last_records-run run rises))
 
 -- nothing over a map
 pub over-none : (m : RecordMap) → over m (run_map []) ≡ m
 over-none m = same_records (over m (run_map [])) m (λ q. get-over m (run_map []) q ∙ ap (λ o. option_or o (get m q)) (get-run_map [] q))
 
 -- two runs that became one
-pub map_of-joined : (rest : List (Vec Record Global)) (older younger merged : Vec Record Global) → run_map merged.items ≡ over (run_map older.items) (run_map younger.items)
-    → map_of (records_of (rest ++ merged ∷ [])) ≡ map_of (records_of ((rest ++ older ∷ []) ++ younger ∷ []))
+pub map_of-joined : (rest : List (List Record)) (older younger merged : List Record) → run_map merged ≡ over (run_map older) (run_map younger)
+    → map_of (rest ++ merged ∷ []) ≡ map_of ((rest ++ older ∷ []) ++ younger ∷ [])
 map_of-joined rest older younger merged e =
-    ap map_of (records-push rest merged) ∙ map_of-more (records_of rest) merged.items ∙ ap (over (map_of (records_of rest))) e
-    ∙ sym (over-assoc (map_of (records_of rest)) (run_map older.items) (run_map younger.items))
-    ∙ ap (λ m. over m (run_map younger.items)) (sym (ap map_of (records-push rest older) ∙ map_of-more (records_of rest) older.items))
-    ∙ sym (ap map_of (records-push (rest ++ older ∷ []) younger) ∙ map_of-more (records_of (rest ++ older ∷ [])) younger.items)
+    map_of-more rest merged ∙ ap (over (map_of rest)) e ∙ sym (over-assoc (map_of rest) (run_map older) (run_map younger))
+    ∙ ap (λ m. over m (run_map younger)) (sym (map_of-more rest older)) ∙ sym (map_of-more (rest ++ older ∷ []) younger)
 
-pub all-front : (rest : List (Vec Record Global)) (run : Vec Record Global) → All (λ (r : Vec Record Global). IsRun r.items) (rest ++ run ∷ []) → All (λ (r : Vec Record Global). IsRun r.items) rest
+pub all-front : (rest : List (List Record)) (run : List Record) → All (λ (r : List Record). IsRun r) (rest ++ run ∷ []) → All (λ (r : List Record). IsRun r) rest
 all-front rest run all k d low =
-    let P = λ (r : Vec Record Global). IsRun r.items in
+    let P = λ (r : List Record). IsRun r in
     subst P (get_or-append rest (run ∷ []) d k low) (all k d (omega (arith, length-append rest (run ∷ []))))

@@ -50,7 +50,7 @@ number_of user sequence kind few =
 abbrev IsOfTable : ℕ → Record → Type 0
 IsOfTable family r = (r.family ≡ family) × (is_point r.kind ≡ true) × (r.sequence ≤ top_sequence)
 
-key_order : (r s : Record) → r.sequence ≤ top_sequence → s.sequence ≤ top_sequence → key_cmp (key_of r) (key_of s) ≡ ordering_then (slice_cmp nat_cmp r.key s.key) (nat_cmp (packed_of s.sequence s.kind) (packed_of r.sequence r.kind))
+pub key_order : (r s : Record) → r.sequence ≤ top_sequence → s.sequence ≤ top_sequence → key_cmp (key_of r) (key_of s) ≡ ordering_then (slice_cmp nat_cmp r.key s.key) (nat_cmp (packed_of s.sequence s.kind) (packed_of r.sequence r.kind))
 key_order r s a b = λ i. ordering_then (slice_cmp nat_cmp (user_of r.key r.sequence r.kind i) (user_of s.key s.sequence s.kind i)) (nat_cmp (number_of s.key s.sequence s.kind b i) (number_of r.key r.sequence r.kind a i))
 
 less_then : (o p e : Ordering) → ordering_then o p ≡ Less → ordering_then o (ordering_then p e) ≡ Less

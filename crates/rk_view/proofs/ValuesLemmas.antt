@@ -1,7 +1,6 @@
 -- The records of the map that runs make up stand as in a run.
 use Rattle.std.proofs.Common.{◌≡◌, T, List, [], ◌∷◌, ◌++◌, map, reverse, refl, sym, ap, subst, ◌∙◌}
-use Rattle.std.specs.Prelude.{Some, flat_map, Vec}
-use Rattle.std.specs.declared.alloc.Global.{Global}
+use Rattle.std.specs.Prelude.{Some, flat_map}
 use Rattle.std.specs.List.{All, AllByRecursion}
 use Rattle.std.proofs.lemmas.List.Elements.{recursion_from_All}
 use Rattle.std.proofs.lemmas.List.{reverse-append}
@@ -12,13 +11,13 @@ use Rattle.std.specs.Ordering.{is_eq}
 use Rattle.std.specs.Prelude.{cond}
 use Rattle.rk_bytes.specs.declared.model.key.Record.{Record}
 use Rattle.rk_bytes.specs.Model.Records.{Slot, RecordMap, slot_cmp, slot_cmp-total, slot_of, entry_of}
-use Rattle.rk_view.specs.Maps.{IsRun, AreNumbered, records_of, map_of, entries_of}
+use Rattle.rk_view.specs.Maps.{IsRun, AreNumbered, map_of, entries_of}
 use Rattle.rk_view.proofs.RunLemmas.{both_true}
 use Rattle.rk_view.proofs.MapLemmas.{entries-run_map}
 use Rattle.rk_view.proofs.FirstLemmas.{InOwnSlots, own_map_of, found_more}
 use Rattle.rk_view.proofs.RunsLemmas.{NumberedEntries, put_numbered, numbered_entries}
 
-in_place : (es : List (Slot × Record)) → T (is_sorted slot_cmp es) → InOwnSlots (λ q. find_in slot_cmp q es) → map entry_of (map (λ (e : Slot × Record). e.1) es) ≡ es
+pub in_place : (es : List (Slot × Record)) → T (is_sorted slot_cmp es) → InOwnSlots (λ q. find_in slot_cmp q es) → map entry_of (map (λ (e : Slot × Record). e.1) es) ≡ es
 in_place [] sorted own = refl
 in_place (e ∷ es) sorted own =
     let here : slot_of e.1 ≡ e.0 = own e.0 e.1 (ap (λ o. cond (is_eq o) (Some e.1) (find_in slot_cmp e.0 es)) (tied_itself slot_cmp-total e.0)) in
@@ -41,7 +40,7 @@ values_numbered : (es : List (Slot × Record)) → NumberedEntries es → AreNum
 values_numbered [] all = tt
 values_numbered (e ∷ es) all = (all.0, values_numbered es all.1)
 
-each_numbered : (runs : List (Vec Record Global)) → AllByRecursion (λ (run : Vec Record Global). IsRun run.items) runs → AllByRecursion AreNumbered (records_of runs)
+each_numbered : (runs : List (List Record)) → AllByRecursion (λ (run : List Record). IsRun run) runs → AllByRecursion AreNumbered runs
 each_numbered [] all = tt
 each_numbered (run ∷ runs) all = (all.0.numbered, each_numbered runs all.1)
 
@@ -57,8 +56,8 @@ map_numbered : (runs : List (List Record)) → AllByRecursion AreNumbered runs �
 unfolding map_of
 map_numbered runs all = values_numbered (entries (from_entries (entries_of runs))) (from_numbered (entries_of runs) (flat_numbered (reverse runs) (reversed runs all)))
 
-pub values-run : (runs : List (Vec Record Global)) → All (λ (run : Vec Record Global). IsRun run.items) runs → IsRun (values (map_of (records_of runs)))
+pub values-run : (runs : List (List Record)) → All (λ (run : List Record). IsRun run) runs → IsRun (values (map_of runs))
 values-run runs all = record {
-  rises = let m : RecordMap = map_of (records_of runs) in subst (λ es. T (is_sorted slot_cmp es)) (sym (in_place (entries m) (entries_sorted m) (λ q x found. own_map_of (records_of runs) q x (get-entries m q ∙ found)))) (entries_sorted m);
-  numbered = map_numbered (records_of runs) (each_numbered runs (recursion_from_All (λ (run : Vec Record Global). IsRun run.items) runs all));
+  rises = let m : RecordMap = map_of runs in subst (λ es. T (is_sorted slot_cmp es)) (sym (in_place (entries m) (entries_sorted m) (λ q x found. own_map_of runs q x (get-entries m q ∙ found)))) (entries_sorted m);
+  numbered = map_numbered runs (each_numbered runs (recursion_from_All (λ (run : List Record). IsRun run) runs all));
 }

@@ -18,11 +18,9 @@ use Rattle.rk_bytes.specs.declared.model.key.Record.{Record}
 use Rattle.rk_bytes.specs.declared.model.view.Tomb.{Tomb}
 use Rattle.rk_bytes.specs.Model.InternalKey.{packed_of, top_sequence}
 use Rattle.rk_bytes.specs.Model.Records.{slot_cmp, slot_of, entry_of, end_of}
-use Rattle.std.specs.FinMap.{values}
-use Rattle.rk_bytes.specs.Model.KeyView.{State, is_point, is_of_key, is_covered, uncovered, deciding, view_records}
-use Rattle.rk_view.specs.Shown.{uncovered_below}
+use Rattle.rk_bytes.specs.Model.KeyView.{is_point, is_of_key, is_covered, uncovered}
 use Rattle.rk_view.specs.Places.{is_after}
-use Rattle.rk_view.specs.Maps.{IsRun, AreNumbered}
+use Rattle.rk_view.specs.Maps.{AreNumbered}
 use Rattle.rk_view.proofs.SlotOrder.{same_text, slots_by_head, after_rises, head_cmp, head_of}
 use Rattle.rk_view.proofs.RunLemmas.{both_true, lt-Less, Rises}
 use Rattle.rk_view.proofs.FirstLemmas.{equal}
@@ -200,7 +198,7 @@ module _ (tombs : List Tomb) (family : ℕ) (key : List ℕ) where
           (none x past, all_filter (λ y. shows tombs family key y ≡ false) (is_after family key below) run (each_later (λ y. shows tombs family key y ≡ false) x run (first_part x run rises) (λ y less. none y (follows family key 0 x y past less))))
 
   -- a higher limit leaves more
-  raised : (low high : ℕ) (r : Record) → low ≤ high → is_after family key low r ≡ true → is_after family key high r ≡ true
+  pub raised : (low high : ℕ) (r : Record) → low ≤ high → is_after family key low r ≡ true → is_after family key high r ≡ true
   raised low high r le after = by (nat_cmp family r.family) (slice_cmp nat_cmp key r.key) after
     where
       by : (o p : Ordering) → is_lt (ordering_then o (ordering_then p (nat_cmp (packed_of r.sequence r.kind) low))) ≡ true → is_lt (ordering_then o (ordering_then p (nat_cmp (packed_of r.sequence r.kind) high))) ≡ true
@@ -224,7 +222,7 @@ module _ (tombs : List Tomb) (family : ℕ) (key : List ℕ) where
       by true = refl
       by false = refl
 
-  shows_key : (y : Record) → shows tombs family key y ≡ true → is_of_key family key y ≡ true
+  pub shows_key : (y : Record) → shows tombs family key y ≡ true → is_of_key family key y ≡ true
   shows_key y e = (both_of (is_of_key family key y) (not (is_covered tombs y)) e).0
 
   -- the next record of a key, and the rest
@@ -321,11 +319,3 @@ not_at family key r e f k =
     let same : ((r.family == family) && bytes_eq r.key key) ≡ true =
     ap (λ b. b && bytes_eq r.key key) (eq-eqb r.family family f) ∙ sym (is_eq-slice_cmp r.key key) ∙ ap is_eq (ap (slice_cmp nat_cmp r.key) (sym k) ∙ tied_itself nat_list_cmp_total r.key) in
     let no : true ≡ false = sym same ∙ e in cc
-
--- all that is shown of a key, below a limit that is above all
-pub all_of_key : (state : State) (family : ℕ) (key : List ℕ) (top : ℕ) → top ≡ 2 ^ 64 → IsRun (values state.records) → uncovered_below state family key top ≡ uncovered state.tombs family key (values state.records)
-all_of_key state family key top is run = ap (uncovered_below state family key) is ∙ all_below state.tombs family key (values state.records) run.numbered
-
-pub all_decide : (state : State) (family : ℕ) (key : List ℕ) (top : ℕ) → top ≡ 2 ^ 64 → IsRun (values state.records) → deciding (uncovered_below state family key top) ≡ view_records state family key
-unfolding view_records
-all_decide state family key top is run = ap deciding (all_of_key state family key top is run)

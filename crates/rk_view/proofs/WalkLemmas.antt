@@ -1,10 +1,10 @@
--- What comes next in a family, among records in the order of their slots.
-use Rattle.std.proofs.Common.{◌≡◌, ◌≢◌, ℕ, ◌+◌, ◌^◌, ◌<◌, ◌≤◌, Bool, true, false, cond, T, List, [], ◌∷◌, length, map, refl, sym, ap, subst, ◌∙◌, arith, eq-eqb}
+-- The keys and the rows of a family after a place, among records in the order of their slots.
+use Rattle.std.proofs.Common.{◌≡◌, ◌≢◌, ℕ, ◌+◌, ◌^◌, ◌≤◌, Bool, true, false, cond, T, List, [], ◌∷◌, length, map, refl, sym, ap, subst, ◌∙◌, arith, eq-eqb}
 use Rattle.std.proofs.lemmas.Bool.{eqb-true}
 use Rattle.std.proofs.lemmas.Map.Text.{is_eq-slice_cmp}
 use Rattle.std.specs.Prelude.{Option, Some, None, find, filter, filter_map, bytes_eq, nat_lt, ◌==◌, ◌&&◌, unwrap_or}
 use Rattle.std.proofs.lemmas.Bool.Decides.{nat_tests}
-use Rattle.std.specs.List.{AllByRecursion, dedup, dedup_from}
+use Rattle.std.specs.List.{AllByRecursion, dedup, dedup_from, cons_option}
 use Rattle.std.specs.declared.cmp.Ordering.{Ordering}
 use Rattle.std.specs.declared.cmp.Ordering.TheVariants.{Less, Equal, Greater}
 use Rattle.std.specs.Ordering.{nat_cmp, ordering_then, is_lt, is_le, is_gt, is_eq}
@@ -14,17 +14,17 @@ use Rattle.std.specs.FinMap.{values, nat_cmp-IsAntisymmetric}
 use Rattle.rk_bytes.specs.declared.model.key.Record.{Record}
 use Rattle.rk_bytes.specs.Model.InternalKey.{packed_of, top_sequence}
 use Rattle.rk_bytes.specs.Model.Records.{slot_cmp, slot_of}
-use Rattle.rk_bytes.specs.Model.KeyView.{State, Answer, found as a_value, absent, merge, answer, row_of, rows, keys_in, is_between, is_from}
+use Rattle.rk_bytes.specs.Model.KeyView.{State, Answer, Row, found as a_value, absent, merge, answer, row_of, rows, keys_in, is_between, is_from}
 use Rattle.rk_view.specs.Places.{is_after}
 use Rattle.rk_view.specs.Maps.{IsRun, AreNumbered}
-use Rattle.rk_view.specs.Shown.{is_below, rows_after, IsNextKey}
+use Rattle.rk_view.specs.Shown.{is_below}
 use Rattle.rk_view.proofs.SlotOrder.{same_text, head_cmp, head_cmp-total, head_of, place_of, lt_upto, is_lt-Less, heads_upto, upto_head}
 use Rattle.rk_view.proofs.FirstLemmas.{equal}
 use Rattle.rk_view.proofs.RunLemmas.{both_true, lt-Less, Rises}
 use Rattle.rk_view.proofs.ViewLemmas.{filter_none, filter_all, each_later, less_not_gt, follows, after_of, not_after, past_key, all_filter, same_record, first_part, rest_part, number_fits, not_lt, is_lt_of}
 
 -- the keys of a family's records, in their order
-abbrev keys_of : ℕ → List Record → List (List ℕ)
+abbrev pub keys_of : ℕ → List Record → List (List ℕ)
 keys_of family run = map (λ (r : Record). r.key) (filter (λ (r : Record). r.family == family) run)
 
 -- a record's key, if it is of the family
@@ -180,7 +180,7 @@ once family r (y ∷ run) f rises = by (y.family == family) (bytes_eq y.key r.ke
         dropped true = keys_first family y (filter (is_after family r.key 0) run) false others
         dropped false = refl
 
-shorter : (q : Record → Bool) (run : List Record) → length (filter q run) ≤ length run
+pub shorter : (q : Record → Bool) (run : List Record) → length (filter q run) ≤ length run
 shorter q [] = omega arith
 shorter q (x ∷ run) = by (q x) (shorter q run)
   where
@@ -195,14 +195,7 @@ keys_next family user below run r f s =
     ap (λ rs. keys_in rs family) s.here ∙ ap (dedup bytes_eq) (keys_first family r s.tail true (eq-eqb r.family family f)) ∙ once family r s.tail f s.rises
     ∙ ap (λ rs. r.key ∷ dedup bytes_eq (keys_of family rs)) (sym s.rest)
 
-fewer_after : (family : ℕ) (user : List ℕ) (below : ℕ) (run : List Record) (r : Record) → Split family user below run r → length (filter (is_after family r.key 0) run) < length (filter (is_after family user below) run)
-fewer_after family user below run r s =
-    let one : length (filter (is_after family r.key 0) run) ≡ length (filter (is_after family r.key 0) s.tail) = ap length s.rest in
-    let two : length (filter (is_after family user below) run) ≡ length (r ∷ s.tail) = ap length s.here in
-    let three = shorter (is_after family r.key 0) s.tail in
-    omega arith
-
-filter_passes : (q : Record → Bool) (run : List Record) → AllByRecursion (λ y. q y ≡ true) (filter q run)
+pub filter_passes : (q : Record → Bool) (run : List Record) → AllByRecursion (λ y. q y ≡ true) (filter q run)
 filter_passes q [] = tt
 filter_passes q (x ∷ run) = by (q x) refl (filter_passes q run)
   where
@@ -218,11 +211,11 @@ all_dedup_from P k (y ∷ ks) here all = by (bytes_eq y k) (all_dedup_from P k k
     by true one two = one
     by false one two = (here, two)
 
-all_dedup : (P : List ℕ → Type 0) (ks : List (List ℕ)) → AllByRecursion P ks → AllByRecursion P (dedup bytes_eq ks)
+pub all_dedup : (P : List ℕ → Type 0) (ks : List (List ℕ)) → AllByRecursion P ks → AllByRecursion P (dedup bytes_eq ks)
 all_dedup P [] all = tt
 all_dedup P (k ∷ ks) all = all_dedup_from P k ks all.0 all.1
 
-all_keys : (P : List ℕ → Type 0) (family : ℕ) (run : List Record) → AllByRecursion (λ y. y.family ≡ family → P y.key) run → AllByRecursion P (keys_of family run)
+pub all_keys : (P : List ℕ → Type 0) (family : ℕ) (run : List Record) → AllByRecursion (λ y. y.family ≡ family → P y.key) run → AllByRecursion P (keys_of family run)
 all_keys P family [] all = tt
 all_keys P family (x ∷ run) all = subst (AllByRecursion P) (sym (keys_first family x run (x.family == family) refl)) (by (x.family == family) refl (all_keys P family run all.1))
   where
@@ -235,7 +228,7 @@ each_of P Q [] f all = tt
 each_of P Q (x ∷ xs) f all = (f x all.0, each_of P Q xs f all.1)
 
 -- what comes after all of a key of the family has a greater key
-greater_key : (family : ℕ) (key : List ℕ) (y : Record) → is_after family key 0 y ≡ true → y.family ≡ family → slice_cmp nat_cmp key y.key ≡ Less
+pub greater_key : (family : ℕ) (key : List ℕ) (y : Record) → is_after family key 0 y ≡ true → y.family ≡ family → slice_cmp nat_cmp key y.key ≡ Less
 greater_key family key y after f = by (slice_cmp nat_cmp key y.key) refl (sym first ∙ after)
   where
     first : is_after family key 0 y ≡ is_lt (ordering_then (slice_cmp nat_cmp key y.key) (nat_cmp (packed_of y.sequence y.kind) 0))
@@ -254,6 +247,12 @@ not_below (Some end) a b less e = by (is_lt (slice_cmp nat_cmp b end)) refl
     by : (c : Bool) → is_lt (slice_cmp nat_cmp b end) ≡ c → c ≡ false
     by false e2 = refl
     by true e2 = absurd (let no : true ≡ false = sym (ap is_lt (nat_list_cmp_total.trans a b end less (is_lt-Less _ e2))) ∙ e in cc)
+
+-- the rows of a family's keys after a place, up to an end, which is excluded
+unfoldable pub rows_after : State → ℕ → List ℕ → ℕ → Option (List ℕ) → List Row
+rows_after state family user below to =
+    filter_map (λ key. row_of key (answer state family key))
+    (filter (is_below to) (keys_in (filter (is_after family user below) (values state.records)) family))
 
 module _ (state : State) (family : ℕ) (user : List ℕ) (below : ℕ) (to : Option (List ℕ)) where
   -- no keys, no rows
@@ -274,13 +273,12 @@ module _ (state : State) (family : ℕ) (user : List ℕ) (below : ℕ) (to : Op
       ∙ ap (filter_map (λ key. row_of key (answer state family key))) (filter_none (is_below to) (r.key ∷ later) (past, all))
 
   -- the next key's row, and those after it
-  pub next_of_family : (r : Record) → r.family ≡ family → Split family user below (values state.records) r → is_below to r.key ≡ true → IsNextKey state family user below to r
+  pub next_of_family : (r : Record) → r.family ≡ family → Split family user below (values state.records) r → is_below to r.key ≡ true
+      → rows_after state family user below to ≡ cons_option (row_of r.key (answer state family r.key)) (rows_after state family r.key 0 to)
   unfolding rows_after
-  next_of_family r f s before = record {
-    fewer = fewer_after family user below (values state.records) r s;
-    rest = ap (λ ks. filter_map (λ key. row_of key (answer state family key)) (filter (is_below to) ks)) (keys_next family user below (values state.records) r f s)
-        ∙ ap (λ b. filter_map (λ key. row_of key (answer state family key)) (cond b (r.key ∷ filter (is_below to) (keys_in (filter (is_after family r.key 0) (values state.records)) family)) (filter (is_below to) (keys_in (filter (is_after family r.key 0) (values state.records)) family)))) before;
-  }
+  next_of_family r f s before =
+      ap (λ ks. filter_map (λ key. row_of key (answer state family key)) (filter (is_below to) ks)) (keys_next family user below (values state.records) r f s)
+      ∙ ap (λ b. filter_map (λ key. row_of key (answer state family key)) (cond b (r.key ∷ filter (is_below to) (keys_in (filter (is_after family r.key 0) (values state.records)) family)) (filter (is_below to) (keys_in (filter (is_after family r.key 0) (values state.records)) family)))) before
 
 -- a key that doesn't pass needn't be counted
 drop_from : (t : List ℕ → Bool) (k : List ℕ) (ks : List (List ℕ)) → t k ≡ false → filter t (dedup_from bytes_eq k ks) ≡ filter t (dedup bytes_eq ks)
@@ -295,7 +293,7 @@ same_filter : (s t : List ℕ → Bool) (ks : List (List ℕ)) → AllByRecursio
 same_filter s t [] all = refl
 same_filter s t (k ∷ ks) all = λ i. cond (all.0 i) (k ∷ same_filter s t ks all.1 i) (same_filter s t ks all.1 i)
 
-after_start : (family : ℕ) (start : List ℕ) (x : Record) → x.sequence ≤ top_sequence → x.family ≡ family → is_after family start (2 ^ 64) x ≡ is_from start x.key
+pub after_start : (family : ℕ) (start : List ℕ) (x : Record) → x.sequence ≤ top_sequence → x.family ≡ family → is_after family start (2 ^ 64) x ≡ is_from start x.key
 after_start family start x few f =
     ap (λ o. is_lt (ordering_then o (ordering_then (slice_cmp nat_cmp start x.key) (nat_cmp (packed_of x.sequence x.kind) (2 ^ 64))))) (ap (nat_cmp family) f ∙ tied_itself nat_cmp_total family)
     ∙ ap (λ o. is_lt (ordering_then (slice_cmp nat_cmp start x.key) o)) (is_lt-Less _ (is_lt_of (packed_of x.sequence x.kind) (2 ^ 64) (number_fits [] family start x few)))

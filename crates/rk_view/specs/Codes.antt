@@ -12,7 +12,7 @@ use Rattle.rk_bytes.specs.Model.InternalKey.{kind_number}
 use Rattle.rk_bytes.specs.Model.Records.{Slot, RecordMap}
 use Rattle.rk_bytes.specs.Model.KeyView.{State}
 
-abbrev coded_bytes : Coded (List ℕ)
+abbrev pub coded_bytes : Coded (List ℕ)
 coded_bytes = coded_list coded_ℕ
 
 -- the kind with a number
@@ -26,10 +26,10 @@ kind_back Merge = refl
 kind_back SingleDeletion = refl
 kind_back RangeDeletion = refl
 
-abbrev coded_kind : Coded Kind
+abbrev pub coded_kind : Coded Kind
 coded_kind = code_by ℕ coded_ℕ kind_number kind_with kind_back
 
-abbrev coded_record : Coded Record
+abbrev pub coded_record : Coded Record
 coded_record =
     code_by (ℕ × (List ℕ × (ℕ × (Kind × List ℕ)))) (coded× coded_ℕ (coded× coded_bytes (coded× coded_ℕ (coded× coded_kind coded_bytes))))
     (λ r. (r.family, (r.key, (r.sequence, (r.kind, r.value))))) (λ p. record { family = p.0; key = p.1.0; sequence = p.1.1.0; kind = p.1.1.1.0; value = p.1.1.1.1 }) (λ _. refl)

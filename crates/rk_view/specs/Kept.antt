@@ -1,5 +1,6 @@
 -- What contracts see of a state that is built up, and what its calls make of it.
-use Rattle.std.specs.Prelude.{◌≡◌, ℕ, ◌==◌, ◌-◌, ◌^◌, ◌<◌, ◌≤◌, min, nat_lt, Bool, true, List, [], ◌∷◌, ◌++◌, length, map, slice_index_or, if◌then◌else◌, Option, Vec, vec_len, vec_capacity, refl}
+use Rattle.std.specs.Prelude.{◌≡◌, ℕ, ◌==◌, ◌+◌, ◌-◌, ◌^◌, ◌≤◌, min, nat_lt, Bool, true, List, [], ◌∷◌, ◌++◌, map, flat_map, if◌then◌else◌, Option, None, refl}
+use Rattle.std.specs.declared.vec.Vec.{Vec}
 use Rattle.std.specs.declared.alloc.Global.{Global}
 use Rattle.std.specs.Coded.{Coded, code_by, coded×, coded_ℕ}
 use Rattle.std.specs.List.{All, AllByRecursion, list_any}
@@ -14,7 +15,9 @@ use Rattle.rk_bytes.specs.Model.InternalKey.{top_sequence, key_cmp}
 use Rattle.rk_bytes.specs.Model.Records.{last_records, over}
 use Rattle.rk_bytes.specs.Model.KeyView.{State, is_point, key_of, tomb_of}
 use Rattle.rk_view.specs.Codes.{coded_state}
-use Rattle.rk_view.specs.Maps.{IsRun, records_of, map_of}
+use Rattle.rk_view.specs.Maps.{IsRun, map_of}
+use Rattle.rk_view.specs.Parts.{IsRoom}
+use Rattle.rk_view.specs.declared.run.TheConstants.{MOST_RUNS}
 
 -- a state, and how many runs it has room for
 pub record Kept : Type 0 where
@@ -49,6 +52,14 @@ with_records records state = record state { records = over state.records (last_r
 abbrev pub with_record : Option Cut → Record → State → State
 with_record cut r state = record { families = state.families; records = over state.records (last_records (r ∷ [])); tombs = state.tombs ++ tombs_of cut r }
 
+-- records over those of a state, and their range deletions, uncut, behind its own
+abbrev pub with_replayed : List Record → State → State
+with_replayed records state = record {
+  families = state.families;
+  records = over state.records (last_records records);
+  tombs = state.tombs ++ flat_map (tombs_of None) records;
+}
+
 -- Records of single keys, of one family, in the strict order of their internal keys.
 pub record IsTableRun (records : List Record) : Type 0 where
   pub family : ℕ
@@ -60,14 +71,19 @@ abbrev pub most : ℕ
 most = 2 ^ 64 - 1
 
 -- Runs of records, and the count of what they hold.
-pub record AreCounted (runs : List (Vec Record Global)) (n : ℕ) : Type 0 where
-  pub each : All (λ run. IsRun run.items) runs
-  pub count : n ≡ min (len (map_of (records_of runs))) most
+pub record AreCounted (runs : List (List Record)) (n : ℕ) : Type 0 where
+  pub each : All (λ run. IsRun run) runs
+  pub count : n ≡ min (len (map_of runs)) most
 
 -- the families' ids rise
 abbrev pub AreRising : List FamilyLine → Type 0
 AreRising families = IsStrictlySortedBy nat_cmp (map (λ line. line.id) families)
 
--- there is a youngest run, and it has room for a record
-abbrev pub HasRoom : List (Vec Record Global) → Type 0
-HasRoom runs = (0 < length runs) × ((d : Vec Record Global) → vec_len (slice_index_or runs (length runs - 1) d) < vec_capacity (slice_index_or runs (length runs - 1) d))
+-- How a state is kept: the runs and their count, few enough and with room for more, and the families.
+pub record IsStored (families : List FamilyLine) (runs : List (List Record)) (len capacity : ℕ) (rooms : List (Vec (Vec Record Global) Global)) (ready spare count : ℕ) : Type 0 where
+  pub counted : AreCounted runs count
+  pub rising : AreRising families
+  pub few : len + spare ≤ MOST_RUNS
+  pub space : len + spare ≤ capacity
+  pub ready_for : spare ≤ ready
+  pub rooms_are : All (λ room. IsRoom room) rooms

@@ -1,10 +1,9 @@
 -- How runs of records make up a record map.
-use Rattle.std.specs.Prelude.{◌≤◌, T, List, map, reverse, flat_map, Option, Some, None, if◌then◌else◌}
+use Rattle.std.specs.Prelude.{◌≡◌, ◌<◌, ◌≤◌, ℕ, Bool, true, length, slice_index_or, T, List, map, reverse, flat_map, Option, Some, None, if◌then◌else◌}
 use Rattle.std.specs.List.{AllByRecursion}
-use Rattle.std.specs.declared.vec.Vec.{Vec}
-use Rattle.std.specs.declared.alloc.Global.{Global}
 use Rattle.std.specs.Ordering.{is_gt}
 use Rattle.std.specs.FinMap.{is_sorted, from_entries}
+use Rattle.std.specs.FinMap.Entries.{find}
 use Rattle.rk_bytes.specs.declared.model.key.Record.{Record}
 use Rattle.rk_bytes.specs.Model.InternalKey.{top_sequence}
 use Rattle.rk_bytes.specs.Model.Records.{Slot, RecordMap, slot_cmp, slot_of, entry_of}
@@ -32,10 +31,14 @@ first_of None later = later
 first_of (Some r) None = Some r
 first_of (Some r) (Some s) = if is_gt (slot_cmp (slot_of s) (slot_of r)) then Some r else Some s
 
--- the runs' records, the oldest run first
-abbrev pub records_of : List (Vec Record Global) → List (List Record)
-records_of runs = map (λ run. run.items) runs
+-- what a list of records has in a slot
+abbrev pub look : Slot → List Record → Option Record
+look q records = find slot_cmp q (map entry_of records)
 
 -- the record map of one run
 abbrev pub run_map : List Record → RecordMap
 run_map run = from_entries (map entry_of run)
+
+-- the runs that are marked have nothing in the slot of a record
+abbrev pub AreApart : List Bool → List (List Record) → Record → Type 0
+AreApart marks runs r = (k : ℕ) (mark : Bool) (run : List Record) → k < length runs → slice_index_or marks k mark ≡ true → look (slot_of r) (slice_index_or runs k run) ≡ None

@@ -1,12 +1,17 @@
 //! What is shown of a key.
-ghost use Rattle.std.specs.Prelude.{◌≡◌, [], ◌≤◌, ◌==◌, ◌&&◌, not, bytes_eq, true, MatchOption, IfOk, OnErr};
-ghost use Rattle.rk_bytes.specs.Model.KeyView.{answer, view_records, operands, base_value, is_point, is_covered};
-ghost use Rattle.rk_view.specs.Shown.{answer_of, is_merged, uncovered_below, IsNext, IsNextShown};
+ghost use Rattle.std.specs.Prelude.{◌≡◌, ◌∷◌, ◌^◌, slice_get, true, Some, IfOk, OnErr};
+ghost use Rattle.rk_bytes.specs.Model.InternalKey.{packed_of};
+ghost use Rattle.rk_bytes.specs.Model.KeyView.{answer, view_records, deciding, shown, operands, base_value};
+ghost use Rattle.rk_view.specs.Sources.{merged, AreRuns};
+ghost use Rattle.rk_view.specs.Shown.{answer_of, is_merged, shown_below, answer_in};
 
+use crate::State;
+use crate::cursor::Cursors;
+use crate::next::{is_at, is_shown};
 use crate::place::{Place, number};
-use crate::{State, runs};
 use rk_bytes::{Bytes, Memory, Seq};
-use rk_ikey::{Kind, Record, TOP};
+use rk_ikey::{Kind, Record};
+use rk_tomb::TombSet;
 use std::alloc::Global;
 
 /// What is shown of a key.
@@ -40,14 +45,16 @@ pub fn view_get<'a>(
     ensures shown { IfOk result (λ shown. answer_of shown ≡ answer state.now.state family key.now) }
     ensures memory { OnErr result (is_merged (answer state.now.state family key.now) ≡ true) }
 {
-    let top = state.above_all();
-    match next_record(state, family, key, top) {
+    let cursors = Cursors::of(state, &all_of(family, key));
+    match cursors.first() {
         None => Ok(Answer::Absent),
-        Some(newest) => match newest.kind {
-            Kind::Value => Ok(Answer::Found(newest.value.as_slice())),
-            Kind::Merge => Ok(Answer::Merge(merges_of(alloc, state, family, key)?)),
-            _ => Ok(Answer::Absent),
-        },
+        Some(first) => {
+            if is_at(first, family, key) {
+                answer_at(alloc, state.tombs(), &cursors, first)
+            } else {
+                Ok(Answer::Absent)
+            }
+        }
     }
 }
 
@@ -62,8 +69,9 @@ pub fn view_records(
     ensures { IfOk result (λ records. records ≡ view_records state.now.state family key.now) }
 {
     let mut records = Seq::new(alloc);
-    let mut below = state.above_all();
-    while let Some(next) = next_record(state, family, key, below) {
+    let mut below = ABOVE_ALL;
+    let mut cursors = Cursors::of(state, &all_of(family, key));
+    while let Some(next) = cursors.next_shown(state.tombs(), family, key, below) {
         match next.kind {
             Kind::Merge => records.push(next.copy(alloc)?)?,
             Kind::Value => {
@@ -77,15 +85,79 @@ pub fn view_records(
     Ok(records)
 }
 
-/// The operands of the merges that decide what is shown of a key.
-fn merges_of(alloc: Global, state: &State, family: u32, key: &[u8]) -> Result<Operands, Memory>
-    ensures values { IfOk result (λ shown. shown.newest_first ≡ operands (view_records state.now.state family key.now)) }
-    ensures base { IfOk result (λ shown. shown.base ≡ base_value (view_records state.now.state family key.now)) }
+/// A number above that of each record in its internal key.
+pub(crate) const ABOVE_ALL: u128 = 1 << 64;
+
+/// The place before all records of a key.
+fn all_of<'k>(family: u32, user: &'k [u8]) -> Place<'k>
+    ensures family { result.family ≡ family }
+    ensures user { result.user.now ≡ user.now }
+    ensures below { result.below ≡ 2 ^ 64 }
+{
+    Place {
+        family,
+        user,
+        below: ABOVE_ALL,
+    }
+}
+
+/// What is shown of the key of the first record.
+pub(crate) fn answer_at<'a>(
+    alloc: Global,
+    tombs: &TombSet,
+    cursors: &Cursors<'a>,
+    first: &'a Record,
+) -> Result<Answer<'a>, Memory>
+    requires runs { AreRuns cursors.now }
+    requires first { slice_get (merged cursors.now) 0 ≡ Some first.now }
+    ensures shown { IfOk result (λ shown. answer_of shown ≡ answer_in tombs.now first.now.family first.now.key (merged cursors.now)) }
+    ensures memory { OnErr result (is_merged (answer_in tombs.now first.now.family first.now.key (merged cursors.now)) ≡ true) }
+{
+    if is_shown(tombs, first) {
+        return answer_of_newest(alloc, tombs, cursors, first);
+    }
+    let mut ahead = cursors.copy();
+    match ahead.next_shown(tombs, first.family, first.key.as_slice(), number(first)) {
+        Some(newest) => answer_of_newest(alloc, tombs, &ahead, newest),
+        None => Ok(Answer::Absent),
+    }
+}
+
+/// What the newest record of a key shows that no range deletion covers, with those behind it.
+fn answer_of_newest<'a>(
+    alloc: Global,
+    tombs: &TombSet,
+    cursors: &Cursors<'a>,
+    newest: &'a Record,
+) -> Result<Answer<'a>, Memory>
+    ensures shown { IfOk result (λ answer. answer_of answer ≡ shown (deciding (newest.now ∷ shown_below tombs.now newest.now.family newest.now.key (packed_of newest.now.sequence newest.now.kind) (merged cursors.now)))) }
+    ensures memory { OnErr result (is_merged (shown (deciding (newest.now ∷ shown_below tombs.now newest.now.family newest.now.key (packed_of newest.now.sequence newest.now.kind) (merged cursors.now)))) ≡ true) }
+{
+    match newest.kind {
+        Kind::Value => Ok(Answer::Found(newest.value.as_slice())),
+        Kind::Merge => {
+            let behind = cursors.copy();
+            Ok(Answer::Merge(merges_from(alloc, tombs, behind, newest)?))
+        }
+        _ => Ok(Answer::Absent),
+    }
+}
+
+/// The operands of a merge and of those behind it that decide with it what is shown of their key.
+fn merges_from(
+    alloc: Global,
+    tombs: &TombSet,
+    mut behind: Cursors<'_>,
+    newest: &Record,
+) -> Result<Operands, Memory>
+    ensures values { IfOk result (λ shown. shown.newest_first ≡ newest.now.value ∷ operands (deciding (shown_below tombs.now newest.now.family newest.now.key (packed_of newest.now.sequence newest.now.kind) (merged behind.entry)))) }
+    ensures base { IfOk result (λ shown. shown.base ≡ base_value (deciding (shown_below tombs.now newest.now.family newest.now.key (packed_of newest.now.sequence newest.now.kind) (merged behind.entry)))) }
 {
     let mut newest_first = Seq::new(alloc);
+    newest_first.push(Bytes::copy_of(alloc, newest.value.as_slice())?)?;
     let mut base = None;
-    let mut below = state.above_all();
-    while let Some(next) = next_record(state, family, key, below) {
+    let mut below = number(newest);
+    while let Some(next) = behind.next_shown(tombs, newest.family, newest.key.as_slice(), below) {
         let value = Bytes::copy_of(alloc, next.value.as_slice())?;
         match next.kind {
             Kind::Merge => newest_first.push(value)?,
@@ -98,60 +170,4 @@ fn merges_of(alloc: Global, state: &State, family: u32, key: &[u8]) -> Result<Op
         below = number(next);
     }
     Ok(Operands { newest_first, base })
-}
-
-/// The next record of a key that no range deletion covers, of those with a number below a limit.
-fn next_record<'a>(state: &'a State, family: u32, key: &[u8], below: u128) -> Option<&'a Record>
-    ensures { MatchOption result (uncovered_below state.now.state family key.now below ≡ []) (λ next. IsNextShown state.now.state family key.now below next.now) }
-{
-    let mut limit = below;
-    while let Some(next) = candidate(state, family, key, limit) {
-        if is_shown(state, next) {
-            return Some(next);
-        }
-        limit = number(next);
-    }
-    None
-}
-
-/// The next record at a key, of those with a number below a limit, covered or not.
-fn candidate<'a>(state: &'a State, family: u32, key: &[u8], below: u128) -> Option<&'a Record>
-    ensures { MatchOption result (uncovered_below state.now.state family key.now below ≡ []) (λ next. IsNext state.now.state family key.now below next.now) }
-{
-    let place = Place {
-        family,
-        user: key,
-        below,
-    };
-    match runs::first_after(state.runs(), &place) {
-        None => None,
-        Some(next) => {
-            if is_at(next, family, key) {
-                Some(next)
-            } else {
-                None
-            }
-        }
-    }
-}
-
-/// Whether the record is of the family and at the key.
-fn is_at(next: &Record, family: u32, key: &[u8]) -> bool
-    ensures { result ≡ (next.now.family == family && bytes_eq next.now.key key.now) }
-{
-    next.family == family && next.key.as_slice() == key
-}
-
-/// Whether a record is of a single key, and no range deletion covers it.
-fn is_shown(state: &State, next: &Record) -> bool
-    requires { next.now.sequence ≤ TOP }
-    ensures { result ≡ (is_point next.now.kind && not (is_covered state.now.state.tombs next.now)) }
-{
-    match next.kind {
-        Kind::RangeDeletion => false,
-        _ => state
-            .tombs()
-            .covering(next.family, next.key.as_slice(), next.sequence, next.kind)
-            .is_none(),
-    }
 }

@@ -3,11 +3,17 @@
 #![tactic(auto)]
 
 mod answer;
+mod cursor;
 mod family;
 mod merge;
+mod next;
+mod parts;
 mod place;
 mod run;
 mod runs;
+mod seek;
+mod sort;
+mod source;
 mod state;
 mod walk;
 

@@ -1,135 +1,78 @@
 //! Runs of records, the youngest last, whose records take the places of those in older runs.
-ghost use Rattle.std.specs.Prelude.{◌≡◌, ◌+◌, ◌<◌, ◌≤◌, ◌++◌, ◌∷◌, [], length, OnErr, IfOk, min, find, vec_len, vec_capacity, if◌then◌else◌, IsTrue, OnOk};
+ghost use Rattle.std.specs.Prelude.{◌≡◌, ◌+◌, ◌<◌, ◌≤◌, ◌++◌, ◌∷◌, [], true, false, is_some, None, length, OnErr, IfErr, IfOk, min, vec_len, vec_capacity, if◌then◌else◌, IsTrue, OnOk};
 ghost use Rattle.std.specs.List.{All};
-ghost use Rattle.std.specs.Option.{option_copied};
-ghost use Rattle.std.specs.FinMap.{values, contains_key, insert, len};
+ghost use Rattle.std.specs.FinMap.{contains_key, len};
 ghost use Rattle.rk_bytes.specs.Model.Records.{slot_of, last_records, over};
-ghost use Rattle.rk_view.specs.Places.{is_after};
-ghost use Rattle.rk_view.specs.Maps.{IsRun, records_of, map_of, first_of};
-ghost use Rattle.rk_view.specs.Kept.{AreCounted, HasRoom, most};
+ghost use Rattle.rk_view.specs.Maps.{AreApart, IsRun, look, map_of};
+ghost use Rattle.rk_view.specs.Kept.{AreCounted, most};
+ghost use Rattle.rk_view.specs.Parts.{IsRoom};
 
 use crate::merge::merge;
-use crate::place::{Place, cmp_slots};
-use crate::run;
+use crate::parts::Hint;
+use crate::run::{MOST_RUNS, Room, Run};
 use rk_bytes::Memory;
-use rk_ikey::{Record, TOP};
+use rk_ikey::Record;
 use std::alloc::Global;
 
-/// The first record after a place, of all runs.
-pub fn first_after<'r>(runs: &'r [Vec<Record>], place: &Place<'_>) -> Option<&'r Record>
-    requires { All (λ run. IsRun run.items) runs.now }
-    ensures { option_copied result ≡ find (is_after place.now.family place.now.user.now place.now.below) (values (map_of (records_of runs.now))) }
+/// How many records there are with those of one more run, from how many there are without, and whether some
+/// slot of that run is held.
+pub fn counted(runs: &[Run], records: &[Record], count: u64) -> (u64, bool)
+    requires few { length runs.now ≤ MOST_RUNS }
+    requires runs { AreCounted runs.now count }
+    requires run { IsRun records.now }
+    ensures count { result.0 ≡ min (len (over (map_of runs.now) (last_records records.now))) most }
+    ensures held { result.1 ≡ false → All (λ r. contains_key (map_of runs.now) (slot_of r) ≡ false) records.now }
 {
-    let mut first = None;
-    for run in runs {
-        first = first_of(first, run::first_after(run.as_slice(), place));
+    let apart = apart_from(runs, records);
+    let mut hints = [Hint { part: 0, record: 0 }; MOST_RUNS];
+    let mut total = count;
+    let mut some = false;
+    for sought in records {
+        let held = holds(runs, &apart, sought, &mut hints);
+        total = more_unless(held, total);
+        some = some || held;
     }
-    first
+    (total, some)
 }
 
-/// Of two records, if there are any, the one with the lesser slot, and of one slot the later one.
-fn first_of<'r>(earlier: Option<&'r Record>, later: Option<&'r Record>) -> Option<&'r Record>
-    ensures { option_copied result ≡ first_of (option_copied earlier.entry) (option_copied later.entry) }
+/// For each run, whether it has a gap for all of the records, and so holds none of their slots.
+fn apart_from(runs: &[Run], records: &[Record]) -> [bool; MOST_RUNS]
+    requires few { length runs.now ≤ MOST_RUNS }
+    requires records { IsRun records.now }
+    ensures { All (AreApart result runs.now) records.now }
 {
-    match (earlier, later) {
-        (Some(record), Some(other)) => {
-            if cmp_slots(other, record).is_gt() {
-                Some(record)
-            } else {
-                Some(other)
-            }
-        }
-        (None, later) => later,
-        (earlier, None) => earlier,
+    let mut apart = [false; MOST_RUNS];
+    for index in 0..runs.len() {
+        apart[index] = runs[index].has_gap(records);
     }
+    apart
 }
 
-/// Whether some run has a record in the slot of the one that is sought.
-pub fn holds(runs: &[Vec<Record>], sought: &Record) -> bool
-    requires { All (λ run. IsRun run.items) runs.now }
-    ensures { result ≡ contains_key (map_of (records_of runs.now)) (slot_of sought.now) }
+/// Whether some run has a record in the slot of the one that is sought. Of each run it is known whether it is
+/// apart from that, and there is a hint for the others.
+fn holds(runs: &[Run], apart: &[bool], sought: &Record, hints: &mut [Hint]) -> bool
+    requires hints { length runs.now ≤ length hints.old }
+    requires flags { length runs.now ≤ length apart.now }
+    requires apart { AreApart apart.now runs.now sought.now }
+    requires runs { All (λ run. IsRun run) runs.now }
+    ensures { result ≡ contains_key (map_of runs.now) (slot_of sought.now) }
 {
     let mut held = false;
-    for run in runs {
-        held = held || run::holds(run.as_slice(), sought);
+    for (index, run) in runs.iter().enumerate() {
+        held = held || holds_unless(run, apart[index], sought, &mut hints[index]);
     }
     held
 }
 
-/// How many records a run has that is filled one by one.
-const RUN_LEN: usize = 1024;
-
-/// Makes room for a record in the youngest run, and keeps that for so many more runs. Where memory runs
-/// out, the runs hold what they held.
-pub fn make_room(alloc: Global, runs: &mut Vec<Vec<Record>>, spare: usize) -> Result<(), Memory>
-    requires runs { All (λ run. IsRun run.items) runs.old.items }
-    requires spare { vec_len runs.old + spare ≤ vec_capacity runs.old }
-    ensures runs { All (λ run. IsRun run.items) runs.new.items }
-    ensures spare { vec_len runs.new + spare ≤ vec_capacity runs.new }
-    ensures same { map_of (records_of runs.new.items) ≡ map_of (records_of runs.old.items) }
-    ensures room { OnOk result (HasRoom runs.new.items) }
+/// Whether a run that isn't apart from the slot of the one that is sought has a record there.
+fn holds_unless(run: &Run, apart: bool, sought: &Record, hint: &mut Hint) -> bool
+    requires { apart ≡ true → look (slot_of sought.now) run.now ≡ None }
+    ensures { result ≡ is_some (look (slot_of sought.now) run.now) }
 {
-    if has_room(runs.as_slice()) {
-        return Ok(());
+    if apart {
+        return false;
     }
-    settle(alloc, runs);
-    let Some(more) = spare.checked_add(1) else {
-        return Err(Memory);
-    };
-    runs.reserve(more)?;
-    let run = Vec::with_capacity(alloc, RUN_LEN)?;
-    runs.push_reserved(run);
-    Ok(())
-}
-
-/// Whether there is a youngest run that has room for a record.
-fn has_room(runs: &[Vec<Record>]) -> bool
-    ensures { IsTrue result → HasRoom runs.now }
-{
-    match runs.last() {
-        Some(run) => run.len() < run.capacity(),
-        None => false,
-    }
-}
-
-/// Puts a record into the youngest run, which has room.
-pub fn put(runs: &mut Vec<Vec<Record>>, added: Record)
-    requires runs { All (λ run. IsRun run.items) runs.old.items }
-    requires room { HasRoom runs.old.items }
-    requires sequence { added.sequence ≤ TOP }
-    ensures runs { All (λ run. IsRun run.items) runs.new.items }
-    ensures len { vec_len runs.new ≡ vec_len runs.old }
-    ensures capacity { vec_capacity runs.new ≡ vec_capacity runs.old }
-    ensures map { map_of (records_of runs.new.items) ≡ insert (map_of (records_of runs.old.items)) (slot_of added) added }
-{
-    match runs.pop() {
-        Some(mut run) => {
-            run::put(&mut run, added);
-            runs.push_reserved(run);
-        }
-        None => unreachable!(),
-    }
-}
-
-/// How many records there are with one more, from how many there are without.
-pub fn counted_with(runs: &[Vec<Record>], added: &Record, count: u64) -> u64
-    requires { AreCounted runs.now count }
-    ensures { result ≡ min (len (insert (map_of (records_of runs.now)) (slot_of added.now) added.now)) most }
-{
-    more_unless(holds(runs, added), count)
-}
-
-/// How many records there are with those of one more run, from how many there are without.
-pub fn counted(runs: &[Vec<Record>], records: &[Record], count: u64) -> u64
-    requires runs { AreCounted runs.now count }
-    requires run { IsRun records.now }
-    ensures { result ≡ min (len (over (map_of (records_of runs.now)) (last_records records.now))) most }
-{
-    let mut total = count;
-    for sought in records {
-        total = more_unless(holds(runs, sought), total);
-    }
-    total
+    run.holds(sought, hint)
 }
 
 /// One more, unless a record was held before, and at most 2^64 - 1.
@@ -139,12 +82,142 @@ fn more_unless(held: bool, count: u64) -> u64
     if held { count } else { count.saturating_add(1) }
 }
 
+/// Makes room for so many more runs. Comes to nothing where memory runs out, or where there can't be so many;
+/// the runs hold what they held.
+pub fn reserve(
+    alloc: Global,
+    runs: &mut Vec<Run>,
+    rooms: &mut Vec<Room>,
+    n: usize,
+) -> Result<(), Memory>
+    requires runs { All (λ run. IsRun run) runs.old.items }
+    requires rooms { All (λ room. IsRoom room) rooms.old.items }
+    ensures runs { All (λ run. IsRun run) runs.new.items }
+    ensures same { map_of runs.new.items ≡ map_of runs.old.items }
+    ensures rooms { All (λ room. IsRoom room) rooms.new.items }
+    ensures few { OnOk result (vec_len runs.new + n ≤ MOST_RUNS) }
+    ensures space { OnOk result (vec_len runs.new + n ≤ vec_capacity runs.new) }
+    ensures ready { OnOk result (n ≤ vec_len rooms.new) }
+    ensures len { vec_len runs.new ≤ vec_len runs.old }
+    ensures capacity { vec_capacity runs.old ≤ vec_capacity runs.new }
+    ensures more { vec_len rooms.old ≤ vec_len rooms.new }
+{
+    if n >= MOST_RUNS {
+        return Err(Memory);
+    }
+    shrink(alloc, runs, MOST_RUNS - n)?;
+    runs.reserve(n)?;
+    make_rooms(alloc, rooms, n)
+}
+
+/// Makes rooms until there are so many.
+fn make_rooms(alloc: Global, rooms: &mut Vec<Room>, n: usize) -> Result<(), Memory>
+    requires { All (λ room. IsRoom room) rooms.old.items }
+    ensures rooms { All (λ room. IsRoom room) rooms.new.items }
+    ensures ready { OnOk result (n ≤ vec_len rooms.new) }
+    ensures more { vec_len rooms.old ≤ vec_len rooms.new }
+{
+    while rooms.len() < n {
+        let room = Vec::with_capacity(alloc, 1)?;
+        rooms.push(room)?;
+    }
+    Ok(())
+}
+
+/// Makes one run of several until there are at most so many.
+fn shrink(alloc: Global, runs: &mut Vec<Run>, count: usize) -> Result<(), Memory>
+    requires runs { All (λ run. IsRun run) runs.old.items }
+    requires some { 0 < count }
+    ensures runs { All (λ run. IsRun run) runs.new.items }
+    ensures same { map_of runs.new.items ≡ map_of runs.old.items }
+    ensures few { OnOk result (vec_len runs.new ≤ count) }
+    ensures len { vec_len runs.new ≤ vec_len runs.old }
+    ensures capacity { vec_capacity runs.new ≡ vec_capacity runs.old }
+{
+    if runs.len() <= count {
+        return Ok(());
+    }
+    settle(alloc, runs);
+    while runs.len() > count {
+        join_youngest(alloc, runs)?;
+    }
+    Ok(())
+}
+
+/// Adds a list of records, of which each takes the place of one in its slot. Where none of the slots is held,
+/// a run that has a gap for all of them takes them in.
+pub fn add(runs: &mut Vec<Run>, rooms: &mut Vec<Room>, records: Vec<Record>, held: bool)
+    requires runs { All (λ run. IsRun run) runs.old.items }
+    requires rooms { All (λ room. IsRoom room) rooms.old.items }
+    requires space { vec_len runs.old < vec_capacity runs.old }
+    requires ready { 0 < vec_len rooms.old }
+    requires records { IsRun records.items }
+    requires held { held ≡ false → All (λ r. contains_key (map_of runs.old.items) (slot_of r) ≡ false) records.items }
+    ensures runs { All (λ run. IsRun run) runs.new.items }
+    ensures map { map_of runs.new.items ≡ over (map_of runs.old.items) (last_records records.items) }
+    ensures rooms { All (λ room. IsRoom room) rooms.new.items }
+    ensures len { vec_len runs.new ≤ vec_len runs.old + 1 }
+    ensures capacity { vec_capacity runs.new ≡ vec_capacity runs.old }
+    ensures fewer { vec_len rooms.old ≤ vec_len rooms.new + 1 }
+{
+    if held {
+        begin(runs, rooms, records);
+        return;
+    }
+    match attach(runs.as_mut_slice(), records) {
+        Ok(()) => (),
+        Err(left) => begin(runs, rooms, left),
+    }
+}
+
+/// Begins a new run, the youngest.
+pub fn begin(runs: &mut Vec<Run>, rooms: &mut Vec<Room>, records: Vec<Record>)
+    requires runs { All (λ run. IsRun run) runs.old.items }
+    requires rooms { All (λ room. IsRoom room) rooms.old.items }
+    requires space { vec_len runs.old < vec_capacity runs.old }
+    requires ready { 0 < vec_len rooms.old }
+    requires records { IsRun records.items }
+    ensures runs { All (λ run. IsRun run) runs.new.items }
+    ensures map { map_of runs.new.items ≡ over (map_of runs.old.items) (last_records records.items) }
+    ensures rooms { All (λ room. IsRoom room) rooms.new.items }
+    ensures len { vec_len runs.new ≡ vec_len runs.old + 1 }
+    ensures capacity { vec_capacity runs.new ≡ vec_capacity runs.old }
+    ensures fewer { vec_len rooms.new + 1 ≡ vec_len rooms.old }
+{
+    match rooms.pop() {
+        Some(room) => runs.push_reserved(Run::of(room, records)),
+        None => unreachable!(),
+    }
+}
+
+/// Lets a run take in records of which no slot is held. Gives them back where none has a gap for them, and
+/// where memory runs out.
+fn attach(runs: &mut [Run], records: Vec<Record>) -> Result<(), Vec<Record>>
+    requires runs { All (λ run. IsRun run) runs.old }
+    requires records { IsRun records.items }
+    requires free { All (λ r. contains_key (map_of runs.old) (slot_of r) ≡ false) records.items }
+    ensures runs { All (λ run. IsRun run) runs.new }
+    ensures map { OnOk result (map_of runs.new ≡ over (map_of runs.old) (last_records records.items)) }
+    ensures err { OnErr result (runs.new ≡ runs.old) }
+    ensures back { IfErr result (λ back. back.items ≡ records.items) }
+{
+    let mut left = records;
+    for index in 0..runs.len() {
+        let run = &mut runs[index];
+        match run.take_in(left) {
+            Ok(()) => return Ok(()),
+            Err(back) => left = back,
+        }
+    }
+    Err(left)
+}
+
 /// Makes one run of the two youngest ones for as long as the older of them isn't twice as long, so that there
 /// are few runs. Where memory runs out, it leaves the rest as they are.
-pub fn settle(alloc: Global, runs: &mut Vec<Vec<Record>>)
-    requires { All (λ run. IsRun run.items) runs.old.items }
-    ensures runs { All (λ run. IsRun run.items) runs.new.items }
-    ensures same { map_of (records_of runs.new.items) ≡ map_of (records_of runs.old.items) }
+pub fn settle(alloc: Global, runs: &mut Vec<Run>)
+    requires { All (λ run. IsRun run) runs.old.items }
+    ensures runs { All (λ run. IsRun run) runs.new.items }
+    ensures same { map_of runs.new.items ≡ map_of runs.old.items }
     ensures len { vec_len runs.new ≤ vec_len runs.old }
     ensures capacity { vec_capacity runs.new ≡ vec_capacity runs.old }
 {
@@ -156,28 +229,36 @@ pub fn settle(alloc: Global, runs: &mut Vec<Vec<Record>>)
 }
 
 /// Whether there are two runs, and the older one of the youngest two isn't twice as long as the other.
-fn is_due(runs: &[Vec<Record>]) -> bool
+fn is_due(runs: &[Run]) -> bool
     ensures { IsTrue result → 2 ≤ length runs.now }
 {
     let count = runs.len();
-    count >= 2 && runs[count - 2].len() / 2 < runs[count - 1].len()
+    count >= 2 && is_short(&runs[count - 2], &runs[count - 1])
+}
+
+/// Whether the older run isn't twice as long as the younger one.
+fn is_short(older: &Run, younger: &Run) -> bool {
+    match (older.len(), younger.len()) {
+        (Some(older), Some(younger)) => older / 2 < younger,
+        _ => false,
+    }
 }
 
 /// Makes one run of the two youngest ones. Where memory runs out, it changes nothing.
-fn join_youngest(alloc: Global, runs: &mut Vec<Vec<Record>>) -> Result<(), Memory>
-    requires runs { All (λ run. IsRun run.items) runs.old.items }
+fn join_youngest(alloc: Global, runs: &mut Vec<Run>) -> Result<(), Memory>
+    requires runs { All (λ run. IsRun run) runs.old.items }
     requires two { 2 ≤ vec_len runs.old }
-    ensures runs { All (λ run. IsRun run.items) runs.new.items }
-    ensures same { map_of (records_of runs.new.items) ≡ map_of (records_of runs.old.items) }
+    ensures runs { All (λ run. IsRun run) runs.new.items }
+    ensures same { map_of runs.new.items ≡ map_of runs.old.items }
     ensures ok { OnOk result (vec_len runs.new < vec_len runs.old) }
     ensures err { OnErr result (vec_len runs.new ≡ vec_len runs.old) }
     ensures capacity { vec_capacity runs.new ≡ vec_capacity runs.old }
 {
-    let (mut older, mut younger) = pop_two(runs);
-    match room_for(alloc, older.len(), younger.len()) {
-        Ok(mut merged) => {
-            merge(&mut older, &mut younger, &mut merged);
-            runs.push_reserved(merged);
+    let (older, younger) = pop_two(runs);
+    match space_for(alloc, &older, &younger) {
+        Ok((room, mut merged)) => {
+            merge(alloc, older, younger, &mut merged);
+            runs.push_reserved(Run::of(room, merged));
             Ok(())
         }
         Err(memory) => {
@@ -189,7 +270,7 @@ fn join_youngest(alloc: Global, runs: &mut Vec<Vec<Record>>) -> Result<(), Memor
 }
 
 /// Takes the two youngest runs away.
-fn pop_two(runs: &mut Vec<Vec<Record>>) -> (Vec<Record>, Vec<Record>)
+fn pop_two(runs: &mut Vec<Run>) -> (Run, Run)
     requires { 2 ≤ vec_len runs.old }
     ensures items { runs.old.items ≡ (runs.new.items ++ result.0 ∷ []) ++ result.1 ∷ [] }
     ensures len { vec_len runs.new + 2 ≡ vec_len runs.old }
@@ -204,12 +285,18 @@ fn pop_two(runs: &mut Vec<Vec<Record>>) -> (Vec<Record>, Vec<Record>)
     }
 }
 
-/// An empty list with room for so many records and so many more.
-fn room_for(alloc: Global, first: usize, second: usize) -> Result<Vec<Record>, Memory>
-    ensures { IfOk result (λ room. (room.items ≡ []) × (first + second ≤ vec_capacity room)) }
+/// Memory for a run of all records of two runs.
+fn space_for(alloc: Global, older: &Run, younger: &Run) -> Result<(Room, Vec<Record>), Memory>
+    ensures { IfOk result (λ space. IsRoom space.0 × (space.1.items ≡ []) × (length older.now + length younger.now ≤ vec_capacity space.1)) }
 {
+    let (Some(first), Some(second)) = (older.len(), younger.len()) else {
+        return Err(Memory);
+    };
     let Some(len) = first.checked_add(second) else {
         return Err(Memory);
     };
-    Ok(Vec::with_capacity(alloc, len)?)
+    Ok((
+        Vec::with_capacity(alloc, 1)?,
+        Vec::with_capacity(alloc, len)?,
+    ))
 }

@@ -1,12 +1,13 @@
-ghost use Rattle.std.specs.Prelude.{◌≡◌, ◌↔◌, ◌≤◌, ◌-◌, ◌^◌, ◌++◌, IsTrue, IsErrOf, OnOk, OnErr};
+ghost use Rattle.std.specs.Prelude.{◌≡◌, ◌↔◌, ◌≤◌, ◌-◌, ◌^◌, ◌++◌, flat_map, length, None, IsTrue, IsErrOf, OnOk, OnErr};
 ghost use Rattle.std.specs.List.{All};
 ghost use Rattle.std.specs.FinMap.{values};
 ghost use Rattle.rk_bytes.specs.Model.KeyView.{family_named, record_count};
 ghost use Rattle.rk_tomb.specs.Bounds.{HasWholeBounds};
-ghost use Rattle.rk_view.specs.Kept.{empty_state, with_family, has_family, with_record, with_records, IsTableRun, AreRising, tombs_of};
-ghost use Rattle.rk_view.specs.Maps.{IsRun, records_of, map_of};
+ghost use Rattle.rk_view.specs.Kept.{empty_state, with_family, has_family, with_record, with_records, with_replayed, IsTableRun, AreRising, tombs_of};
+ghost use Rattle.rk_view.specs.Maps.{IsRun, map_of};
 
-use crate::{family, runs};
+use crate::run::{MOST_RUNS, Room, Run};
+use crate::{family, runs, sort};
 use rk_bytes::model::FamilyLine;
 use rk_bytes::{Bytes, Memory, Seq};
 use rk_ikey::{Kind, Record, TOP};
@@ -24,7 +25,9 @@ pub struct State {
     families: Vec<FamilyLine>,
     tombs: TombSet,
     /// The youngest run is the last.
-    runs: Vec<Vec<Record>>,
+    runs: Vec<Run>,
+    /// Rooms for the lists of parts of more runs.
+    rooms: Vec<Room>,
     /// For how many more runs there is room.
     spare: usize,
     /// How many slots have a record.
@@ -32,19 +35,19 @@ pub struct State {
 }
 
 impl Model for State {
-    ghost use Rattle.std.specs.Prelude.{◌+◌, ◌≤◌, vec_len, vec_capacity};
     ghost use Rattle.rk_view.specs.Kept.{Kept, coded_kept};
 
     ghost Value = { Kept };
 
     ghost coded = { coded_kept };
 
-    ghost use Rattle.rk_view.specs.Maps.{records_of, map_of};
-    ghost use Rattle.rk_view.specs.Kept.{AreCounted, AreRising};
+    ghost use Rattle.std.specs.Prelude.{vec_len, vec_capacity};
+    ghost use Rattle.rk_view.specs.Maps.{map_of};
+    ghost use Rattle.rk_view.specs.Kept.{AreCounted, AreRising, IsStored};
 
-    ghost view = { λ s. record { state = record { families = s.families.items; records = map_of (records_of s.runs.items); tombs = s.tombs }; spare = s.spare } };
+    ghost view = { λ s. record { state = record { families = s.families.items; records = map_of s.runs.items; tombs = s.tombs }; spare = s.spare } };
 
-    ghost invariant = { λ s. AreCounted s.runs.items s.count × AreRising s.families.items × (vec_len s.runs + s.spare ≤ vec_capacity s.runs) };
+    ghost invariant = { λ s. IsStored s.families.items s.runs.items (vec_len s.runs) (vec_capacity s.runs) s.rooms.items (vec_len s.rooms) s.spare s.count };
 }
 
 /// Why a family isn't added.
@@ -67,6 +70,7 @@ impl State {
             families: Vec::new(alloc),
             tombs: TombSet::new(alloc),
             runs: Vec::new(alloc),
+            rooms: Vec::new(alloc),
             spare: 0,
             count: 0,
         }
@@ -105,39 +109,74 @@ impl State {
         ensures spare { OnOk result (self.new.spare ≡ 0) }
         ensures err { OnErr result (self.new ≡ self.old) }
     {
-        runs::make_room(self.alloc, &mut self.runs, self.spare)?;
+        let mut records = Vec::with_capacity(self.alloc, 1)?;
+        runs::reserve(self.alloc, &mut self.runs, &mut self.rooms, 1)?;
         add_tomb(self.alloc, &mut self.tombs, &added, cut)?;
-        self.count = runs::counted_with(self.runs.as_slice(), &added, self.count);
-        runs::put(&mut self.runs, added);
-        self.spare = 0;
+        records.push_reserved(added);
+        self.spare = 1;
+        self.begin(records);
         Ok(())
     }
 
-    /// Makes room for so many runs at least. Where memory runs out, it changes nothing.
+    /// Adds records in their order, as logs hold them. Each takes the place of one in its slot, and range deletions
+    /// act on all keys of their ranges. Where memory runs out, there are no more records than before, but there
+    /// may be more range deletions.
+    pub fn add_records(&mut self, records: Seq<Record>) -> Result<(), Memory>
+        requires sequences { All (λ r. r.sequence ≤ TOP) records }
+        ensures state { OnOk result (self.new.state ≡ with_replayed records self.old.state) }
+        ensures spare { OnOk result (self.new.spare ≡ 0) }
+        ensures families { OnErr result (self.new.state.families ≡ self.old.state.families) }
+        ensures records { OnErr result (self.new.state.records ≡ self.old.state.records) }
+    {
+        runs::reserve(self.alloc, &mut self.runs, &mut self.rooms, 1)?;
+        add_tombs(self.alloc, &mut self.tombs, records.as_slice())?;
+        let records = sort::last_of_each(records.into_vec())?;
+        self.spare = 1;
+        self.begin(records);
+        Ok(())
+    }
+
+    /// Makes room for so many runs at least. `Memory` comes where memory runs out, and where there can't be so
+    /// many runs; it changes nothing then.
     pub fn reserve_runs(&mut self, n: usize) -> Result<(), Memory>
         ensures state { self.new.state ≡ self.old.state }
         ensures spare { OnOk result (n ≤ self.new.spare) }
         ensures err { OnErr result (self.new ≡ self.old) }
     {
-        runs::settle(self.alloc, &mut self.runs);
         if self.spare < n {
-            self.runs.reserve(n)?;
+            runs::reserve(self.alloc, &mut self.runs, &mut self.rooms, n)?;
             self.spare = n;
         }
         Ok(())
     }
 
     /// Adds records of single keys, of one family and in the order of their internal keys, as a table holds
-    /// them. Each takes the place of a record in its slot. Takes no memory.
+    /// them. Each takes the place of a record in its slot. Takes no memory that it needs.
     pub fn add_run(&mut self, records: Seq<Record>)
         requires spare { 1 ≤ self.old.spare }
         requires records { IsTableRun records }
         ensures state { self.new.state ≡ with_records records self.old.state }
         ensures spare { self.new.spare ≡ self.old.spare - 1 }
     {
-        self.count = runs::counted(self.runs.as_slice(), records.as_slice(), self.count);
-        self.runs.push_reserved(records.into_vec());
+        let records = records.into_vec();
+        let (count, held) = runs::counted(self.runs.as_slice(), records.as_slice(), self.count);
+        self.count = count;
         self.spare -= 1;
+        runs::add(&mut self.runs, &mut self.rooms, records, held);
+    }
+
+    /// Begins a run of its own for which there is room, and makes runs one where that is due.
+    fn begin(&mut self, records: Vec<Record>)
+        requires spare { 1 ≤ self.old.spare }
+        requires records { IsRun records.items }
+        ensures state { self.new.state ≡ with_records records.items self.old.state }
+        ensures spare { self.new.spare ≡ 0 }
+    {
+        let (count, _) = runs::counted(self.runs.as_slice(), records.as_slice(), self.count);
+        self.count = count;
+        self.spare = 0;
+        runs::begin(&mut self.runs, &mut self.rooms, records);
+        runs::settle(self.alloc, &mut self.runs);
     }
 
     /// The live families, in rising id.
@@ -163,21 +202,13 @@ impl State {
     }
 
     /// The runs of records, for the view of a key.
-    pub(crate) fn runs(&self) -> &[Vec<Record>]
-        ensures runs { All (λ run. IsRun run.items) result.now }
-        ensures map { map_of (records_of result.now) ≡ self.now.state.records }
+    pub(crate) fn runs(&self) -> &[Run]
+        ensures runs { All (λ run. IsRun run) result.now }
+        ensures few { length result.now ≤ MOST_RUNS }
+        ensures map { map_of result.now ≡ self.now.state.records }
         ensures values { IsRun (values self.now.state.records) }
     {
         self.runs.as_slice()
-    }
-
-    /// A number above that of each record in its internal key.
-    pub(crate) fn above_all(&self) -> u128
-        ensures number { result ≡ 2 ^ 64 }
-        ensures values { IsRun (values self.now.state.records) }
-    {
-        let _runs = self.runs();
-        1 << 64
     }
 
     /// The range deletions, for the view of a key.
@@ -209,4 +240,15 @@ fn add_tomb(
         sequence: added.sequence,
         cut,
     })
+}
+
+/// Adds the range deletions among records, which act on all keys of their ranges. Where memory runs out, some are
+/// added.
+fn add_tombs(alloc: Global, tombs: &mut TombSet, records: &[Record]) -> Result<(), Memory>
+    ensures { OnOk result (tombs.new ≡ tombs.old ++ flat_map (tombs_of None) records.now) }
+{
+    for record in records {
+        add_tomb(alloc, tombs, record, None)?;
+    }
+    Ok(())
 }

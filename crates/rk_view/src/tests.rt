@@ -1,5 +1,6 @@
 // What is expected is read off the rules for the view of a key.
-ghost use Rattle.std.specs.Prelude.{◌≡◌, ◌≤◌, length, IfOk};
+ghost use Rattle.std.specs.Prelude.{◌≡◌, ◌<◌, ◌≤◌, [], ◌∷◌, length, IfOk};
+ghost use Rattle.std.specs.List.{All};
 ghost use Rattle.rk_tomb.specs.Bounds.{HasWholeBounds};
 ghost use Rattle.rk_view.specs.Kept.{IsTableRun};
 
@@ -195,25 +196,72 @@ fn a_later_run_takes_the_place_of_an_earlier_one(rt: HostRuntime) -> Result<(), 
     let alloc = rt.alloc();
     let mut state = state_of(alloc, &[(b"a", 1, Kind::Value, b"old")])?;
     state.reserve_runs(2)?;
-    state.add_run(two(alloc, b"one")?);
-    state.add_run(two(alloc, b"two")?);
+    state.add_run(two(alloc, b'a', b'b', b"one")?);
+    state.add_run(two(alloc, b'a', b'b', b"two")?);
+    assert_eq!(rt; state.runs().len(), 3);
     let rows: [(&[u8], &[u8]); 2] = [(b"a", b"two"), (b"b", b"two")];
     assert_rows(&rt, view_iter(alloc, &state, 0, None, None), &rows)?;
-    // Runs become one where there is to be room for more.
-    state.reserve_runs(1)?;
+    // Runs become one where there are to be many more.
+    state.reserve_runs(30)?;
+    assert_eq!(rt; state.runs().len(), 1);
     assert_eq!(rt; state.count(), 2);
     assert_rows(&rt, view_iter(alloc, &state, 0, None, None), &rows)
 }
 
-/// Puts of `a` and `b` at 1, as a table has them.
-fn two(alloc: Global, value: &[u8]) -> Result<Seq<Record>, Memory>
+#[test]
+fn a_run_takes_lists_into_its_gaps(rt: HostRuntime) -> Result<(), Fail> {
+    let alloc = rt.alloc();
+    let mut state = State::new(alloc);
+    state.reserve_runs(3)?;
+    state.add_run(two(alloc, b'a', b'b', b"1")?);
+    state.add_run(two(alloc, b'e', b'f', b"3")?);
+    state.add_run(two(alloc, b'c', b'd', b"2")?);
+    assert_eq!(rt; state.runs().len(), 1);
+    assert_eq!(rt; state.count(), 6);
+    let rows: [(&[u8], &[u8]); 3] = [(b"b", b"1"), (b"c", b"2"), (b"d", b"2")];
+    assert_rows(
+        &rt,
+        view_iter(alloc, &state, 0, Some(b"b"), Some(b"e")),
+        &rows,
+    )
+}
+
+/// Puts of two keys at 1, as a table has them.
+fn two(alloc: Global, first: u8, second: u8, value: &[u8]) -> Result<Seq<Record>, Memory>
+    requires { first < second }
     ensures { IfOk result IsTableRun }
 {
-    let first = made(alloc, b"a", 1, Kind::Value, value)?;
-    let second = made(alloc, b"b", 1, Kind::Value, value)?;
+    let first = made(alloc, &[first], 1, Kind::Value, value)?;
+    let second = made(alloc, &[second], 1, Kind::Value, value)?;
     let mut records = Seq::new(alloc);
     records.push(first)?;
     records.push(second)?;
+    Ok(records)
+}
+
+#[test]
+fn the_last_of_several_records_counts(rt: HostRuntime) -> Result<(), Fail> {
+    let alloc = rt.alloc();
+    let mut state = State::new(alloc);
+    state.add_records(replayed(alloc)?)?;
+    assert_eq!(rt; state.count(), 3);
+    let rows: [(&[u8], &[u8]); 1] = [(b"a", b"last")];
+    assert_rows(&rt, view_iter(alloc, &state, 0, None, None), &rows)
+}
+
+/// Two puts of `a` at 1, one of `b`, and the range deletion of `b` to `d` at 3.
+fn replayed(alloc: Global) -> Result<Seq<Record>, Memory>
+    ensures { IfOk result (λ records. All (λ r. r.sequence ≤ TOP) records) }
+{
+    let first = made(alloc, b"a", 1, Kind::Value, b"first")?;
+    let other = made(alloc, b"b", 2, Kind::Value, b"other")?;
+    let last = made(alloc, b"a", 1, Kind::Value, b"last")?;
+    let range = made(alloc, b"b", 3, Kind::RangeDeletion, b"d")?;
+    let mut records = Seq::new(alloc);
+    records.push(first)?;
+    records.push(other)?;
+    records.push(last)?;
+    records.push(range)?;
     Ok(records)
 }
 

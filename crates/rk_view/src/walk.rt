@@ -1,15 +1,18 @@
 //! The walk over what is shown of a family's keys.
-ghost use Rattle.std.specs.Prelude.{◌≡◌, ◌∷◌, [], unwrap_or, IfOk, MatchOption};
+ghost use Rattle.std.specs.Prelude.{◌≡◌, [], List, unwrap_or, MatchOption};
 ghost use Rattle.std.specs.Option.{option_copied};
+ghost use Rattle.rk_bytes.specs.declared.model.view.Tomb.{Tomb};
 ghost use Rattle.rk_bytes.specs.Model.KeyView.{rows};
-ghost use Rattle.rk_view.specs.Shown.{answer_of, row_shown, rows_after, IsNextKey, GivesRow, IsShownAt, is_below};
+ghost use Rattle.rk_view.specs.Sources.{merged};
+ghost use Rattle.rk_view.specs.Shown.{answer_of, rows_left, IsFrom, IsNextKey, GivesRow, IsShownAt, is_below};
 
-use crate::answer::{Answer, view_get};
+use crate::answer::{ABOVE_ALL, Answer, answer_at};
+use crate::cursor::Cursors;
 use crate::place::Place;
-use crate::runs;
 use crate::state::State;
 use rk_bytes::Memory;
 use rk_ikey::Record;
+use rk_tomb::TombSet;
 use std::alloc::Global;
 use std::marker::Model;
 
@@ -24,23 +27,25 @@ pub struct Row<'a> {
 #[derive(Debug, Drop)]
 pub struct ViewIter<'a> {
     alloc: Global,
-    state: &'a State,
+    tombs: &'a TombSet,
     family: u32,
-    /// The key behind which the walk goes on, at the records with numbers below the limit.
-    user: &'a [u8],
-    below: u128,
     to: Option<&'a [u8]>,
+    /// The records that come after the last key.
+    cursors: Cursors<'a>,
 }
 
 impl<'a> Model for ViewIter<'a> {
     ghost use Rattle.std.specs.Prelude.{List};
     ghost use Rattle.std.specs.Option.{option_copied};
     ghost use Rattle.rk_bytes.specs.Model.KeyView.{Row};
-    ghost use Rattle.rk_view.specs.Shown.{rows_after};
+    ghost use Rattle.rk_view.specs.Sources.{merged};
+    ghost use Rattle.rk_view.specs.Shown.{rows_left, IsFrom};
 
     ghost Value = { List Row };
 
-    ghost view = { λ w. rows_after w.state.now.state w.family w.user.now w.below (option_copied w.to) };
+    ghost view = { λ w. rows_left w.tombs.now w.family (option_copied w.to) w.cursors };
+
+    ghost invariant = { λ w. IsFrom w.family (merged w.cursors) };
 }
 
 /// The rows of the family with this id from one key on, which is included, up to another, which isn't. Takes
@@ -54,13 +59,18 @@ pub fn view_iter<'a>(
 ) -> ViewIter<'a>
     ensures { result ≡ rows state.now.state family (option_copied from.entry) (option_copied to.entry) }
 {
-    ViewIter {
-        alloc,
-        state,
+    let start = Place {
         family,
         user: start_of(from),
-        below: state.above_all(),
+        below: ABOVE_ALL,
+    };
+    let cursors = Cursors::of(state, &start);
+    ViewIter {
+        alloc,
+        tombs: state.tombs(),
+        family,
         to,
+        cursors,
     }
 }
 
@@ -75,56 +85,66 @@ fn start_of<'a>(from: Option<&'a [u8]>) -> &'a [u8]
 }
 
 impl<'a> ViewIter<'a> {
-    /// The next row, or `None` where none is left. `Memory` comes only at merges, where memory runs out, and
-    /// leaves the rows that are left as they were.
+    /// The next row, or `None` where none is left. `Memory` comes only where the next row is of merges and memory
+    /// runs out, and leaves the rows that are left as they were.
     pub fn next_row(&mut self) -> Result<Option<Row<'a>>, Memory>
         ensures { GivesRow self.old result self.new }
     {
-        match row_after(
+        next_row(
             self.alloc,
-            self.state,
+            self.tombs,
             self.family,
-            self.user,
-            self.below,
             self.to,
-        ) {
-            Ok(Some(row)) => {
-                self.user = row.key;
-                self.below = 0;
-                Ok(Some(row))
-            }
-            Ok(None) => Ok(None),
-            Err(memory) => Err(memory),
-        }
+            &mut self.cursors,
+        )
     }
 }
 
-/// The first row of a family after a place in a key.
-fn row_after<'a>(
+/// The next row of a family below an end, if there is one.
+fn next_row<'a>(
     alloc: Global,
-    state: &'a State,
+    tombs: &TombSet,
     family: u32,
-    from: &'a [u8],
-    limit: u128,
-    to: Option<&'a [u8]>,
+    to: Option<&[u8]>,
+    cursors: &mut Cursors<'a>,
 ) -> Result<Option<Row<'a>>, Memory>
-    ensures { IfOk result (λ row. MatchOption row (rows_after state.now.state family from.now limit (option_copied to.entry) ≡ [])
-        (λ row. rows_after state.now.state family from.now limit (option_copied to.entry) ≡ row_shown row ∷ rows_after state.now.state family row.key.now 0 (option_copied to.entry))) }
+    requires { IsFrom family (merged cursors.old) }
+    ensures from { IsFrom family (merged cursors.new) }
+    ensures row { GivesRow (rows_left tombs.now family (option_copied to.entry) cursors.old) result (rows_left tombs.now family (option_copied to.entry) cursors.new) }
 {
-    let mut user = from;
-    let mut below = limit;
-    while let Some(next) = next_key(state, family, user, below, to) {
-        let answer = view_get(alloc, state, family, next.key.as_slice())?;
+    while let Some(first) = next_key(cursors, family, to) {
+        let key = first.key.as_slice();
+        let answer = answer_at(alloc, tombs, cursors, first)?;
+        cursors.skip(&Place {
+            family,
+            user: key,
+            below: 0,
+        });
         if is_shown(&answer) {
-            return Ok(Some(Row {
-                key: next.key.as_slice(),
-                answer,
-            }));
+            return Ok(Some(Row { key, answer }));
         }
-        user = next.key.as_slice();
-        below = 0;
     }
     Ok(None)
+}
+
+/// The first record of what is left, if it is of the family and below an end, if there is one.
+fn next_key<'a>(cursors: &Cursors<'a>, family: u32, to: Option<&[u8]>) -> Option<&'a Record>
+    requires { IsFrom family (merged cursors.now) }
+    ensures { MatchOption result ((tombs : List Tomb) → rows_left tombs family (option_copied to.entry) cursors.now ≡ [])
+        (λ next. IsNextKey family (option_copied to.entry) cursors.now next.now) }
+{
+    match cursors.first() {
+        None => None,
+        Some(first) => {
+            if first.family != family {
+                None
+            } else if is_before(first.key.as_slice(), to) {
+                Some(first)
+            } else {
+                None
+            }
+        }
+    }
 }
 
 /// Whether anything is shown.
@@ -134,36 +154,6 @@ fn is_shown(answer: &Answer<'_>) -> bool
     match answer {
         Answer::Absent => false,
         _ => true,
-    }
-}
-
-/// A record of the next key of a family after a place in a key, below an end, if there is one.
-fn next_key<'a>(
-    state: &'a State,
-    family: u32,
-    user: &[u8],
-    below: u128,
-    to: Option<&[u8]>,
-) -> Option<&'a Record>
-    ensures { MatchOption result (rows_after state.now.state family user.now below (option_copied to.entry) ≡ [])
-        (λ next. IsNextKey state.now.state family user.now below (option_copied to.entry) next.now) }
-{
-    let place = Place {
-        family,
-        user,
-        below,
-    };
-    match runs::first_after(state.runs(), &place) {
-        None => None,
-        Some(next) => {
-            if next.family != family {
-                None
-            } else if is_before(next.key.as_slice(), to) {
-                Some(next)
-            } else {
-                None
-            }
-        }
     }
 }
 

@@ -1,12 +1,9 @@
-use Rattle.std.proofs.Common.{◌+◌, ◌≤◌, sym, ◌∙◌}
+use Rattle.std.proofs.Common.{◌+◌, ◌≤◌}
 use Rattle.rk_bytes.specs.declared.model.block.RangeDel.{RangeDel}
 use Rattle.rk_bytes.specs.Model.InternalKey.{top_sequence}
 use Rattle.rk_open.specs.Tables.{listed_of}
-use Rattle.rk_open.proofs.AddLemmas.{adds_none, each_left, range_more, ranges_none}
+use Rattle.rk_open.proofs.AddLemmas.{adds_none, each_left, range_more}
 use Rattle.rk_open.proofs.ranges.add_ranges.Goals as goal
-
-pub returns-then-is_empty-clause-ranges : goal.returns-then-is_empty-clause-ranges
-returns-then-is_empty-clause-ranges c = ranges_none (listed_of c.args.listed.now) c.args.ranges.now c.args.state.now.state (sym c.is_empty.ensures ∙ c.if-is_empty.true)
 
 pub loop-range-init : goal.loop-range-init
 loop-range-init c = record { added = adds_none c.args.state.now.state; sequences = c.requires.sequences }

@@ -3,11 +3,14 @@ use Rattle.rk_bytes.specs.declared.model.key.Record.{Record}
 use Rattle.rk_bytes.specs.Model.KeyView.{State}
 use Rattle.rk_open.specs.Logged.{with_logged}
 use Rattle.rk_open.specs.Opened.{IsTopOf}
-use Rattle.rk_open.proofs.LoggedLemmas.{logged-told, top_after}
+use Rattle.rk_open.proofs.LoggedLemmas.{logged-replayed, logged-told, top_after}
 use Rattle.rk_open.proofs.state.add_replayed.Goals as goal
 
-added : (c : goal.In_ok-add_records) → c.add_records.new.state.state ≡ with_logged c.args.records c.args.state.now.state
-added c = c.in_ok-add_records.ensures ∙ ap (λ records. with_logged records c.args.state.now.state) c.into_vec.ensures
+added : (c : goal.In_ok-add_records) → c.add_records.new.self.state ≡ with_logged c.args.records c.args.state.now.state
+added c = c.in_ok-add_records.ensures.state ∙ logged-replayed c.args.records c.args.state.now.state
+
+pub returns-clause-state : goal.returns-clause-state
+returns-clause-state c = added c
 
 pub returns-clause-told : goal.returns-clause-told
 returns-clause-told c = λ tables lines is. added c ∙ logged-told c.args.state.now.state lines tables c.args.records is

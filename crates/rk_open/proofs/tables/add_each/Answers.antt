@@ -1,4 +1,4 @@
-use Rattle.std.proofs.Common.{rules, subst, arith}
+use Rattle.std.proofs.Common.{rules, subst}
 use Rattle.std.specs.Prelude.{IfSome}
 use Rattle.std.specs.FinMap.{get}
 use Rattle.rk_bytes.specs.Model.DiskImages.{contents_told}
@@ -8,30 +8,28 @@ use Rattle.rk_open.specs.Tables.{listed_of, AddsTable}
 use Rattle.rk_open.proofs.TablesLemmas.{tables_none, each_more, each_refuses, greater_is}
 use Rattle.rk_open.proofs.tables.add_each.Goals as goal
 
-pub loop-index-init : goal.loop-index-init
-loop-index-init g c = record {
+pub loop-table-init : goal.loop-table-init
+loop-table-init g c = record {
   left = search rules;
   faults = search rules;
-  spare = let spare = c.requires.spare in omega arith;
   added = tables_none (contents_told (g.D.Disk.told c.args.disk.now)) c.args.state.now.state;
 }
 
-pub loop-index-preserved : goal.loop-index-preserved
-loop-index-preserved g c =
-    let inv = c.loop-index.invariant in
+pub loop-table-preserved : goal.loop-table-preserved
+loop-table-preserved g c =
+    let inv = c.loop-table.invariant in
     let o = contents_told (g.D.Disk.told c.args.disk.now) in
-    let table = c.index-tables-index.result in
-    let own = subst (λ told. AddsTable (contents_told told) (listed_of table) c.loop-index.state.state c.add_table.new.state.state c.in-Ok.own) inv.left c.in-Ok.ensures.table in record {
+    let table = c.table-item.result in
+    let own = subst (λ told. AddsTable (contents_told told) (listed_of table) c.loop-table.state.state c.add_table.new.state.state c.in-Ok.own) inv.left c.in-Ok.ensures.table in record {
       left = search rules;
       faults = search rules;
-      spare = let spare = c.in-Ok.ensures.spare in omega arith;
-      added = each_more listed_of c.args.tables.now c.loop-index.index table c.index-tables-index.is c.loop-index-test.true o c.args.state.now.state c.loop-index.state.state c.add_table.new.state.state c.loop-index.top c.in-Ok.own c.max-top.result inv.added own (greater_is c.loop-index.top c.in-Ok.own c.max-top.result c.max-top.ensures);
+      added = each_more listed_of c.args.tables.now c.loop-table.table-index table c.table-item.is c.loop-table-test.true o c.args.state.now.state c.loop-table.state.state c.add_table.new.state.state c.loop-table.top c.in-Ok.own c.max-top.result inv.added own (greater_is c.loop-table.top c.in-Ok.own c.max-top.result c.max-top.ensures);
     }
 
 pub returns-in-Err-clause-tables : goal.returns-in-Err-clause-tables
 returns-in-Err-clause-tables g c =
-    let inv = c.loop-index.invariant in
+    let inv = c.loop-table.invariant in
     let o = contents_told (g.D.Disk.told c.args.disk.now) in
-    let table = c.index-tables-index.result in
+    let table = c.table-item.result in
     let refuses = subst (λ told. IfSome (contents_told told) (λ d. RefusesAs (table_file (get d) (listed_of table)) c.in-Err.why)) inv.left c.in-Err.ensures.table in
-    each_refuses listed_of c.args.tables.now c.loop-index.index table c.index-tables-index.is c.loop-index-test.true o c.args.state.now.state c.loop-index.state.state c.loop-index.top c.in-Err.why inv.added refuses
+    each_refuses listed_of c.args.tables.now c.loop-table.table-index table c.table-item.is c.loop-table-test.true o c.args.state.now.state c.loop-table.state.state c.loop-table.top c.in-Err.why inv.added refuses

@@ -10,8 +10,8 @@ use Rattle.rk_open.proofs.TablesLemmas.{listed_whole, loads, top_of}
 use Rattle.rk_open.proofs.VersionLemmas.{last_whole}
 use Rattle.rk_open.proofs.tables.add_tables.Goals as goal
 
-pub add_each-requires-clause-bounds : goal.add_each-requires-clause-bounds
-add_each-requires-clause-bounds g c =
+pub add_each-requires : goal.add_each-requires
+add_each-requires g c =
     let same = ap (map listed_of) c.as_slice-2.ensures.value ∙ c.in-Ok.ensures ∙ ap listed_tables c.as_slice.ensures in
     listed_whole listed_of c.as_slice-2.result.now c.args.version.now.families same (last_whole c.args.version.now c.requires.last)
 
@@ -19,13 +19,13 @@ pub returns-in-Ok-add_each-clause-loaded : goal.returns-in-Ok-add_each-clause-lo
 returns-in-Ok-add_each-clause-loaded g c =
     let families = c.args.version.now.families in
     let same = ap (map listed_of) c.as_slice-2.ensures.value ∙ c.in-Ok.ensures ∙ ap listed_tables c.as_slice.ensures in
-    loads (contents_told (g.D.Disk.told c.args.disk.now)) (map listed_of c.as_slice-2.result.now) (listed_tables families) (map family_line families) c.reserve_runs.new.self.state c.add_each.new.state.state c.in-Ok-add_each.top same
-    (c.reserve_runs.ensures.state ∙ c.requires.state) c.in-Ok-add_each.ensures.tables
+    loads (contents_told (g.D.Disk.told c.args.disk.now)) (map listed_of c.as_slice-2.result.now) (listed_tables families) (map family_line families) c.args.state.state c.add_each.new.state.state c.in-Ok-add_each.top same
+    c.requires.state c.in-Ok-add_each.ensures.tables
 
 pub returns-in-Ok-add_each-clause-top : goal.returns-in-Ok-add_each-clause-top
 returns-in-Ok-add_each-clause-top g c =
-    top_of (contents_told (g.D.Disk.told c.args.disk.now)) (map listed_of c.as_slice-2.result.now) (map family_line c.args.version.now.families) c.reserve_runs.new.self.state c.add_each.new.state.state c.in-Ok-add_each.top
-    (c.reserve_runs.ensures.state ∙ c.requires.state) c.in-Ok-add_each.ensures.tables
+    top_of (contents_told (g.D.Disk.told c.args.disk.now)) (map listed_of c.as_slice-2.result.now) (map family_line c.args.version.now.families) c.args.state.state c.add_each.new.state.state c.in-Ok-add_each.top
+    c.requires.state c.in-Ok-add_each.ensures.tables
 
 pub returns-in-Err-clause-loaded : goal.returns-in-Err-clause-loaded
 returns-in-Err-clause-loaded g c =

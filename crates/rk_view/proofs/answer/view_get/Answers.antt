@@ -1,50 +1,47 @@
-use Rattle.std.proofs.Common.{◌∙◌, ap, sym, List}
-use Rattle.rk_view.specs.Shown.{is_merged}
+use Rattle.std.proofs.Common.{◌≡◌, ◌∙◌, ◌^◌, sym, subst, true}
+use Rattle.std.specs.Prelude.{filter, IfOk, OnErr}
+use Rattle.std.specs.FinMap.{values}
 use Rattle.rk_bytes.specs.declared.model.key.Record.{Record}
-use Rattle.rk_bytes.specs.Model.KeyView.{found, merge, deciding, view_records, operands, base_value, shown}
-use Rattle.std.specs.Prelude.{Result, Ok, Err, OnErr}
-use Rattle.rk_view.proofs.ViewLemmas.{all_decide}
-use Rattle.rk_view.proofs.DecideLemmas.{deciding-merge, deciding-put, deciding-other, shown-put, operands-merge, merged-some}
+use Rattle.rk_bytes.specs.Model.KeyView.{Answer, answer}
+use Rattle.rk_view.specs.Places.{is_after}
+use Rattle.rk_view.specs.Sources.{merged}
+use Rattle.rk_view.specs.Shown.{answer_of, is_merged, answer_in}
+use Rattle.rk_view.proofs.ViewLemmas.{at_key, not_at}
+use Rattle.rk_view.proofs.NextLemmas.{all_answer, none_answer, elsewhere_answer}
 use Rattle.rk_view.proofs.answer.view_get.Goals as goal
 
 pub returns-in-None-clause-shown : goal.returns-in-None-clause-shown
 returns-in-None-clause-shown c =
-    let state = c.args.state.now.state in
-    let all = all_decide state c.args.family c.args.key.now c.above_all-top.result c.above_all-top.ensures.number c.above_all-top.ensures.values in
-    sym (ap shown (sym all ∙ ap deciding c.in-None.ensures))
+    let here : merged c.of-cursors.result ≡ filter (is_after c.args.family c.args.key.now (2 ^ 64)) (values c.args.state.now.state.records) =
+    c.of-cursors.ensures.left ∙ (λ i. filter (is_after (c.all_of.ensures.family i) (c.all_of.ensures.user i) (c.all_of.ensures.below i)) (values c.args.state.now.state.records)) in
+    none_answer c.args.state.now.state c.args.family c.args.key.now (merged c.of-cursors.result) c.of-cursors.ensures.values here (sym c.in-None.ensures.first)
 
-pub returns-in-Value-clause-shown : goal.returns-in-Value-clause-shown
-returns-in-Value-clause-shown c =
+pub returns-then-is_at-clause-shown : goal.returns-then-is_at-clause-shown
+returns-then-is_at-clause-shown c =
     let state = c.args.state.now.state in
-    let newest : Record = c.in-Some.newest.now in
-    let all = all_decide state c.args.family c.args.key.now c.above_all-top.result c.above_all-top.ensures.number c.above_all-top.ensures.values in
-    ap found c.as_slice.ensures ∙ sym (ap shown (sym all ∙ ap deciding c.in-Some.ensures.rest ∙ deciding-put newest _ c.in-Value.is) ∙ shown-put newest c.in-Value.is)
+    let first : Record = c.in-Some.first.now in
+    let here : merged c.of-cursors.result ≡ filter (is_after c.args.family c.args.key.now (2 ^ 64)) (values state.records) =
+    c.of-cursors.ensures.left ∙ (λ i. filter (is_after (c.all_of.ensures.family i) (c.all_of.ensures.user i) (c.all_of.ensures.below i)) (values state.records)) in
+    let at = at_key c.args.family c.args.key.now first (sym c.is_at.ensures ∙ c.if-is_at.true) in
+    let is : answer_in c.tombs.result.now first.family first.key (merged c.of-cursors.result) ≡ answer state c.args.family c.args.key.now =
+    (λ i. answer_in (c.tombs.ensures i) (at.0 i) (at.1 i) (merged c.of-cursors.result)) ∙ all_answer state c.args.family c.args.key.now (merged c.of-cursors.result) c.of-cursors.ensures.values here in
+    subst (λ (a : Answer). IfOk c.answer_at.result (λ shown. answer_of shown ≡ a)) is c.answer_at.ensures.shown
 
-pub returns-in_ok-merges_of-in-Merge-clause-shown : goal.returns-in_ok-merges_of-in-Merge-clause-shown
-returns-in_ok-merges_of-in-Merge-clause-shown c =
+pub returns-then-is_at-clause-memory : goal.returns-then-is_at-clause-memory
+returns-then-is_at-clause-memory c =
     let state = c.args.state.now.state in
-    let newest : Record = c.in-Some.newest.now in
-    let all = all_decide state c.args.family c.args.key.now c.above_all-top.result c.above_all-top.ensures.number c.above_all-top.ensures.values in
-    let decides : List Record = view_records state c.args.family c.args.key.now in
-    let some = ap operands (sym all ∙ ap deciding c.in-Some.ensures.rest ∙ deciding-merge newest _ c.in-Merge.is) ∙ operands-merge newest _ c.in-Merge.is in
-    (λ i. merge (c.in_ok-merges_of-in-Merge.ensures.values i) (c.in_ok-merges_of-in-Merge.ensures.base i)) ∙ sym (merged-some (operands decides) _ _ (base_value decides) some)
+    let first : Record = c.in-Some.first.now in
+    let here : merged c.of-cursors.result ≡ filter (is_after c.args.family c.args.key.now (2 ^ 64)) (values state.records) =
+    c.of-cursors.ensures.left ∙ (λ i. filter (is_after (c.all_of.ensures.family i) (c.all_of.ensures.user i) (c.all_of.ensures.below i)) (values state.records)) in
+    let at = at_key c.args.family c.args.key.now first (sym c.is_at.ensures ∙ c.if-is_at.true) in
+    let is : answer_in c.tombs.result.now first.family first.key (merged c.of-cursors.result) ≡ answer state c.args.family c.args.key.now =
+    (λ i. answer_in (c.tombs.ensures i) (at.0 i) (at.1 i) (merged c.of-cursors.result)) ∙ all_answer state c.args.family c.args.key.now (merged c.of-cursors.result) c.of-cursors.ensures.values here in
+    subst (λ (a : Answer). OnErr c.answer_at.result (is_merged a ≡ true)) is c.answer_at.ensures.memory
 
-pub returns-in_default-clause-shown : goal.returns-in_default-clause-shown
-returns-in_default-clause-shown c =
+pub returns-else-is_at-clause-shown : goal.returns-else-is_at-clause-shown
+returns-else-is_at-clause-shown c =
     let state = c.args.state.now.state in
-    let newest : Record = c.in-Some.newest.now in
-    let all = all_decide state c.args.family c.args.key.now c.above_all-top.result c.above_all-top.ensures.number c.above_all-top.ensures.values in
-    sym (ap shown (sym all ∙ ap deciding c.in-Some.ensures.rest ∙ deciding-other newest _ c.in_default.not-Merge c.in_default.not-Value))
-
-on_any : {A E : Type 0} (r : Result A E) (P : Type 0) → P → OnErr r P
-on_any (Ok x) P p = tt
-on_any (Err e) P p = p
-
-pub returns-in_err-merges_of-in-Merge-clause-memory : goal.returns-in_err-merges_of-in-Merge-clause-memory
-returns-in_err-merges_of-in-Merge-clause-memory c =
-    let state = c.args.state.now.state in
-    let newest : Record = c.in-Some.newest.now in
-    let all = all_decide state c.args.family c.args.key.now c.above_all-top.result c.above_all-top.ensures.number c.above_all-top.ensures.values in
-    let decides : List Record = view_records state c.args.family c.args.key.now in
-    let some = ap operands (sym all ∙ ap deciding c.in-Some.ensures.rest ∙ deciding-merge newest _ c.in-Merge.is) ∙ operands-merge newest _ c.in-Merge.is in
-    on_any c.from_residual.result _ (ap is_merged (merged-some (operands decides) _ _ (base_value decides) some))
+    let first : Record = c.in-Some.first.now in
+    let here : merged c.of-cursors.result ≡ filter (is_after c.args.family c.args.key.now (2 ^ 64)) (values state.records) =
+    c.of-cursors.ensures.left ∙ (λ i. filter (is_after (c.all_of.ensures.family i) (c.all_of.ensures.user i) (c.all_of.ensures.below i)) (values state.records)) in
+    elsewhere_answer state c.args.family c.args.key.now (merged c.of-cursors.result) c.of-cursors.ensures.values here first (sym c.in-Some.ensures.first) (not_at c.args.family c.args.key.now first (sym c.is_at.ensures ∙ c.if-is_at.false))

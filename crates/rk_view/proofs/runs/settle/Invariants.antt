@@ -1,12 +1,12 @@
 use Rattle.std.proofs.Common.{◌≡◌, ◌≤◌, vec_len, vec_capacity}
 use Rattle.std.specs.List.{All}
-use Rattle.rk_view.specs.Maps.{IsRun, records_of, map_of}
+use Rattle.rk_view.specs.Maps.{IsRun, map_of}
 use Rattle.rk_view.proofs.runs.settle.Given as goal
 
 abbrev pub invariant-loop-alloc : goal.invariant-loop-alloc
 invariant-loop-alloc l = record {
-  each : All (λ run. IsRun run.items) l.runs.items;
-  same : map_of (records_of l.runs.items) ≡ map_of (records_of l.fn.runs.items);
+  each : All (λ run. IsRun run) l.runs.items;
+  same : map_of l.runs.items ≡ map_of l.fn.runs.items;
   len : vec_len l.runs ≤ vec_len l.fn.runs;
   capacity : vec_capacity l.runs ≡ vec_capacity l.fn.runs;
 }

@@ -9,4 +9,4 @@ pub returns : goal.returns
 returns c =
     let lines = c.self.inside.families.items in
     c.named.ensures ∙ ap (λ ls. option_map (λ line. line.id) (find (λ line. bytes_eq line.name c.args.name.now) ls)) c.as_slice.ensures.value
-    ∙ first_named (λ line. bytes_eq line.name c.args.name.now) lines c.self.invariant.1 ∙ ap (λ (k : Kept). family_named k.state c.args.name.now) c.self.view_is
+    ∙ first_named (λ line. bytes_eq line.name c.args.name.now) lines c.self.invariant.rising ∙ ap (λ (k : Kept). family_named k.state c.args.name.now) c.self.view_is
