@@ -3,9 +3,9 @@
 
     manifest_file.py FILE EDITS LIVE_FILES
 
-The first record states the comparator, a log number, the next file's number and the last sequence. Each record
-behind it is an edit that adds a file at level 1, whose keys are apart from all others'; once so many files are
-live, it deletes the oldest of them too. Log records have legacy headers.
+The first record states the comparator, a log number, the next file's number and the last sequence, and adds so many
+files at level 1, as RocksDB begins a manifest with what is live. Each record behind it is an edit that deletes the
+oldest file and adds another. The files' keys are apart from each other. Log records have legacy headers.
 """
 import struct
 import sys
@@ -60,16 +60,17 @@ def internal_key(user_key, sequence):
     return user_key + struct.pack("<Q", sequence << 8 | PUT)
 
 
-def first_edit(edits):
+def first_edit(files, live_files):
     return (
         varint(COMPARATOR)
         + prefixed(b"leveldb.BytewiseComparator")
         + varint(LOG_NUMBER)
         + varint(FIRST_FILE - 1)
         + varint(NEXT_FILE)
-        + varint(FIRST_FILE + edits)
+        + varint(FIRST_FILE + files)
         + varint(LAST_SEQUENCE)
-        + varint(edits)
+        + varint(files)
+        + b"".join(add_file(index) for index in range(live_files))
     )
 
 
@@ -87,8 +88,7 @@ def delete_file(index):
 
 
 def edit(index, live_files):
-    added = add_file(index)
-    return delete_file(index - live_files) + added if index >= live_files else added
+    return delete_file(index - live_files) + add_file(index)
 
 
 class Log:
@@ -120,12 +120,13 @@ class Log:
 
 def main():
     path, edits, live_files = sys.argv[1], int(sys.argv[2]), int(sys.argv[3])
-    if edits >= PRIME:
-        sys.exit(f"at most {PRIME - 1} edits")
+    files = live_files + edits
+    if files >= PRIME:
+        sys.exit(f"at most {PRIME - 1} files")
     with open(path, "wb") as file:
         log = Log(file)
-        log.write(first_edit(edits))
-        for index in range(edits):
+        log.write(first_edit(files, live_files))
+        for index in range(live_files, files):
             log.write(edit(index, live_files))
 
 

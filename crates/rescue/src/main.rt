@@ -3,19 +3,14 @@
 //! command the answer is the usage line.
 #![tactic(auto)]
 
-mod folder;
-mod held;
-mod stdout;
-
-use folder::FolderDisk;
 use rk_bytes::{Memory, Text};
+use rk_folder::{FolderDisk, StdoutSink};
 use rk_ldb::{Status, end_after_want_of_memory, run};
 use std::alloc::Global;
 use std::env;
 use std::io::ErrorKind;
 use std::process::ExitCode;
 use std::rt::{Env, Files};
-use stdout::StdoutSink;
 
 fn main(rt: HostRuntime) -> ExitCode {
     let status = match run_arguments(&rt, rt.alloc()) {
