@@ -8,10 +8,9 @@ use rk_folder::FolderDisk;
 use rk_open::{Mode, OpenErr, open_db};
 use rk_view::{Answer, Row, State, view_get, view_iter};
 use std::alloc::Global;
-use std::env;
-use std::io;
 use std::process::ExitCode;
 use std::rt::{Env, Files};
+use std::{env, io};
 
 /// The family that is walked over.
 const FAMILY: u32 = 0;

@@ -52,6 +52,7 @@ const FILES: [&str; 8] = [
 
 /// The last log, and how long it is where it is cut off.
 const LAST_LOG: &str = "000018.log";
+
 const CUT_LENGTHS: [usize; 3] = [1000, 33000, 35601];
 
 /// Why the commands aren't all run.
@@ -151,7 +152,11 @@ fn copy_of<D: Disk>(alloc: Global, disk: &mut D, length: usize) -> Result<MemDis
             return Err(Stop::Disk);
         };
         let bytes = bytes.as_slice();
-        let kept = if name == LAST_LOG { length } else { bytes.len() };
+        let kept = if name == LAST_LOG {
+            length
+        } else {
+            bytes.len()
+        };
         copy.put_file(name, &bytes[..kept.min(bytes.len())])?;
     }
     Ok(copy)

@@ -9,13 +9,13 @@ const MERGES: &[u8] =
     b"mR\xd3^\x1b\0\x01\x01\0\0\0\0\0\0\0\x03\0\0\0\x01\x01k\x01x\x02\x01k\x01y\x02\x01k\x01z";
 
 /// The manifest of two tables at level 1. The first ends at a range deletion's end, which is the next one's key.
-const TWO_TABLES: &[u8] = b"Y-/\xc9S\0\x01\x01\x1aleveldb.BytewiseComparator\x02\x03\x03\x06\x04\x0a\
+const TWO_TABLES: &[u8] =
+    b"Y-/\xc9S\0\x01\x01\x1aleveldb.BytewiseComparator\x02\x03\x03\x06\x04\x0a\
     \x07\x01\x04\xa2\x01\x09b\x0f\x0a\0\0\0\0\0\0\x09c\x0f\xff\xff\xff\xff\xff\xff\xff\
     \x07\x01\x05r\x09c\x01\0\0\0\0\0\0\0\x09c\x01\0\0\0\0\0\0\0";
 
 /// A table that puts `b` at sequence number 9 and deletes the keys from `b` up to `d` at 10.
-const DELETES_A_RANGE: &[u8] =
-    b"\0\x09\x01b\x01\x09\0\0\0\0\0\0x\0\0\0\0\x01\0\0\0\0\xebp\x04.\
+const DELETES_A_RANGE: &[u8] = b"\0\x09\x01b\x01\x09\0\0\0\0\0\0x\0\0\0\0\x01\0\0\0\0\xebp\x04.\
     \0\x09\x01b\x0f\x0a\0\0\0\0\0\0d\0\0\0\0\x01\0\0\0\0\x09\x11\xb0\x8a\
     \0\x11\x02rocksdb.range_del\x1a\x15\0\0\0\0\x01\0\0\0\x002\xf9\xda}\
     \0\x09\x02b\x01\x09\0\0\0\0\0\0\0\x15\0\0\0\0\x01\0\0\0\0\x1e\x06\x1f\xb24\x1eW\x16\
