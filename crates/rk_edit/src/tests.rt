@@ -1,4 +1,7 @@
 // Expected bytes and fields were computed by a program of another language.
+ghost use Rattle.rk_edit.specs.Fields.{field_of};
+ghost use Rattle.rk_edit.specs.Writing.{HasShortSlices};
+
 use super::*;
 use rk_bytes::Bytes;
 use std::process::Abort;
@@ -228,7 +231,9 @@ fn expect_written<R: Abort + AllocGlobal>(
     rt: &R,
     field: Field<'_>,
     wanted: &[u8],
-) -> Result<(), Fail> {
+) -> Result<(), Fail>
+    requires { HasShortSlices (field_of field) }
+{
     let mut out = Bytes::new(rt.alloc());
     write_field(rt.alloc(), &mut out, &field)?;
     assert_eq!(rt; out.as_slice(), wanted);
