@@ -1,4 +1,5 @@
 pub mod Callers
+mod BuildLemmas
 mod EntryLemmas
 mod ReadLemmas
 mod StepLemmas

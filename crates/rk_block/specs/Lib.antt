@@ -1,3 +1,4 @@
+pub mod Building
 pub mod Parts
 pub mod Raw
 pub mod Read

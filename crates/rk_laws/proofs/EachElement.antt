@@ -32,6 +32,10 @@ pub each_append : {A : Type 0} (P : A → Type 0) (xs ys : List A) → AllByRecu
 each_append P [] ys p q = q
 each_append P (x ∷ xs) ys p q = (p.0, each_append P xs ys p.1 q)
 
+pub each_parts : {A : Type 0} (P : A → Type 0) (xs ys : List A) → AllByRecursion P (xs ++ ys) → AllByRecursion P xs × AllByRecursion P ys
+each_parts P [] ys all = (tt, all)
+each_parts P (x ∷ xs) ys all = let (first, more) = each_parts P xs ys all.1 in ((all.0, first), more)
+
 pub each_filter : {A : Type 0} (P : A → Type 0) (test : A → Bool) (xs : List A) → AllByRecursion P xs → AllByRecursion P (filter test xs)
 each_filter P test [] p = tt
 each_filter {A} P test (x ∷ xs) p = by (test x) (each_filter P test xs p.1)

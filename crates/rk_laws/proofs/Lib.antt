@@ -14,6 +14,7 @@ mod EditTracked
 mod EntryLemmas
 mod FilesAtPoints
 mod IndexLaw
+mod KeyParts
 mod KeyViewLemmas
 mod KeyViewRows
 mod LostNames
@@ -30,7 +31,18 @@ mod RestartLemmas
 mod SalvageFiles
 mod SalvageLemmas
 mod SalvageSteps
+mod StoredBlocks
+mod TableLayout
 mod UsableUnits
 mod VersionOrder
 mod VersionSteps
+mod WrittenBlocks
+mod WrittenData
 mod WrittenEdits
+mod WrittenGroups
+mod WrittenHandles
+mod WrittenMeta
+mod WrittenRoom
+mod WrittenSizes
+mod WrittenTableBytes
+mod WrittenTables

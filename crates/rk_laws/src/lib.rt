@@ -20,10 +20,11 @@ mod opening;
 mod records;
 mod replay;
 mod salvage;
+mod tables;
 
 pub use batch::one_batch;
 pub use best_efforts::{answers_of_a_test, best_refusals, one_best_vector, usable_units};
-pub use blocks::{one_block, one_delta_index, one_index};
+pub use blocks::{one_block, one_delta_index, one_index, written_block};
 pub use checksums::{crc32c_of_appended, mask_round_trip};
 pub use commands::one_command;
 pub use descent::{descends_from_itself, descent_goes_through, ready_after_a_stop};
@@ -44,3 +45,4 @@ pub use salvage::{
     lowest_log_may_go, nothing_to_add, one_free_lost_name, records_in_order,
     salvage_of_tables_and_logs,
 };
+pub use tables::written_table;

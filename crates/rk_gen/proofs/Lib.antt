@@ -1,0 +1,5 @@
+pub mod DirectoryLemmas
+pub mod EditLemmas
+pub mod PutLemmas
+pub mod RisingKeys
+pub mod TableLemmas

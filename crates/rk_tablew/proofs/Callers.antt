@@ -1,0 +1,2 @@
+-- Lemmas that the proofs of callers cite.
+pub mod Order
