@@ -1,9 +1,11 @@
 mod AddLemmas
 mod AnswerLemmas
+mod BestLemmas
 mod BoundLemmas
 mod DirectoryLemmas
 mod FoldLemmas
 mod FrontLemmas
+mod GreatestLemmas
 mod LastLemmas
 mod LineLemmas
 mod ListedLemmas
@@ -11,6 +13,7 @@ mod LoggedLemmas
 mod NeededLemmas
 mod OrderLemmas
 mod PassLemmas
+mod PlacedLemmas
 mod RecordLemmas
 mod ReplayedLemmas
 mod RunLemmas
@@ -18,4 +21,6 @@ mod SoundFields
 mod SoundUnits
 mod TableLemmas
 mod TablesLemmas
+mod UsableLemmas
 mod VersionLemmas
+mod WholeLemmas

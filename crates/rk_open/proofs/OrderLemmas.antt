@@ -48,11 +48,11 @@ module _ {A : Type 0} where
 
 module _ {A : Type 0} (number : A → ℕ) where
   -- no thing has a number below this one
-  abbrev From : ℕ → List A → Type 0
+  abbrev pub From : ℕ → List A → Type 0
   From n xs = AllByRecursion (λ x. n ≤ number x) xs
 
   -- the numbers don't fall
-  abbrev Rising : List A → Type 0
+  abbrev pub Rising : List A → Type 0
   Rising [] = Unit {0}
   Rising (x ∷ xs) = From (number x) xs × Rising xs
 
@@ -147,7 +147,7 @@ module _ {A : Type 0} (number : A → ℕ) where
   rising_joined n [] ys up upto up' from = up'
   rising_joined n (x ∷ xs) ys up upto up' from = (from_joined (number x) n xs ys upto.0 up.0 from, rising_joined n xs ys up.1 upto.1 up' from)
 
-  in_order-rising : (xs : List A) → Rising (in_order number xs)
+  pub in_order-rising : (xs : List A) → Rising (in_order number xs)
   in_order-rising [] = tt
   in_order-rising (x ∷ xs) =
       let others = in_order number xs in

@@ -60,7 +60,7 @@ run_is file left run e = by (are_within file left) refl e
     by false is e = absurd cc
 
 -- the table that is told
-table_is : (d : Directory) (listed : Listed) (seen : OpenSeen) (run : List Record) (ranges : List RangeDel) → IsListed d listed seen → run_within listed.file (records_left seen d) ≡ Ok run → ranges ≡ seen.table.ranges
+pub table_is : (d : Directory) (listed : Listed) (seen : OpenSeen) (run : List Record) (ranges : List RangeDel) → IsListed d listed seen → run_within listed.file (records_left seen d) ≡ Ok run → ranges ≡ seen.table.ranges
     → IsTable (get d) listed (run ++ map (range_record listed.family) ranges) (cut_ranges listed ranges)
 table_is d listed seen run ranges is read same =
     let (within, left) = run_is listed.file (records_left seen d) run read in
@@ -228,11 +228,11 @@ loads o listed wanted lines old new top same begun a = by o a.told
         (are.tables, ap (collected (table_file (get d))) (sym same) ∙ are.are, ((λ i. record { families = families i; records = records i; tombs = tombs i }), a.top_is ∙ ap greatest_sequence are.records_are))
 
 -- the bounds of listed tables
-each_flat : {A B : Type 0} (P : B → Type 0) (f : A → List B) (xs : List A) → AllByRecursion (λ x. AllByRecursion P (f x)) xs → AllByRecursion P (flat_map f xs)
+pub each_flat : {A B : Type 0} (P : B → Type 0) (f : A → List B) (xs : List A) → AllByRecursion (λ x. AllByRecursion P (f x)) xs → AllByRecursion P (flat_map f xs)
 each_flat P f [] each = tt
 each_flat P f (x ∷ xs) each = each_both P (f x) (flat_map f xs) each.0 (each_flat P f xs each.1)
 
-each_kept : {A : Type 0} (P : A → Type 0) (test : A → Bool) (xs : List A) → AllByRecursion P xs → AllByRecursion P (filter test xs)
+pub each_kept : {A : Type 0} (P : A → Type 0) (test : A → Bool) (xs : List A) → AllByRecursion P xs → AllByRecursion P (filter test xs)
 each_kept P test [] each = tt
 each_kept P test (x ∷ xs) each = by (test x) (each_kept P test xs each.1)
   where

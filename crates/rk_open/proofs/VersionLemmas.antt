@@ -78,7 +78,7 @@ steps_hold P step so (x ∷ xs) version next all e h =
     both_steps (step x version) (λ middle. steps_in_order step xs middle) next e λ middle middle_is e1. steps_hold P step so xs middle next all.1 e1 (so x version middle all.0 middle_is h)
 
 -- fields of one kind
-found_sound : {A : Type 0} (field_in : Field → Option A) (P : A → Type 0) → ((field : Field) → IsSound field → IfSome (field_in field) P) → (edit : List Field) → AllByRecursion IsSound edit → AllByRecursion P (filter_map field_in edit)
+pub found_sound : {A : Type 0} (field_in : Field → Option A) (P : A → Type 0) → ((field : Field) → IsSound field → IfSome (field_in field) P) → (edit : List Field) → AllByRecursion IsSound edit → AllByRecursion P (filter_map field_in edit)
 found_sound field_in P so [] all = tt
 found_sound {A} field_in P so (field ∷ edit) all = by (field_in field) (so field all.0) (found_sound field_in P so edit all.1)
   where
@@ -86,7 +86,7 @@ found_sound {A} field_in P so (field ∷ edit) all = by (field_in field) (so fie
     by (Some x) one rest = (one, rest)
     by None one rest = rest
 
-added_in_sound : (field : Field) → IsSound field → IfSome (added_in field) HasWholeKeys
+pub added_in_sound : (field : Field) → IsSound field → IfSome (added_in field) HasWholeKeys
 added_in_sound (add_file file) sound = sound
 added_in_sound (comparator name) sound = tt
 added_in_sound (log_number n) sound = tt
@@ -238,3 +238,9 @@ wholes (live ∷ families) all = (all.0.bounds, wholes families all.1)
 
 pub last_whole : (version : Version) → IsLast version → HaveWholeBounds version.families
 last_whole version is = wholes version.families (last_order version is).files
+
+-- the version after the first so many units
+pub at_whole : (units : List ManifestUnit) → AreSoundUnits units → (point : ℕ) (version : Version) → version_at units point ≡ Ok version → IsInOrder version × HaveWholeBounds version.families
+at_whole units all point version e =
+    let h = version_holds 1 (take point units) first_version version (front_units point units all) e (record { order = record { ids = (tt, tt); files = (record { rise = tt; bounds = tt }, tt); logs = tt }; last = tt }) in
+    (h.order, wholes version.families h.order.files)

@@ -1,4 +1,5 @@
 pub mod Answers
+pub mod Best
 pub mod Faults
 pub mod Logged
 pub mod Logs

@@ -197,6 +197,3 @@ fn with_replayed(loaded: Loaded, replayed: Replayed) -> Result<Filled, OpenErr>
         Err(Memory) => Err(OpenErr::Memory),
     }
 }
-
-#[cfg(test)]
-mod tests;

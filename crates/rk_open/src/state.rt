@@ -27,7 +27,7 @@ pub(crate) fn state_of_families(alloc: Global, version: &Version) -> Result<Stat
 }
 
 /// Adds families in rising id to a state that has none.
-fn add_families(state: &mut State, families: &[FamilyState]) -> Result<(), Memory>
+pub(crate) fn add_families(state: &mut State, families: &[FamilyState]) -> Result<(), Memory>
     requires none { state.old.state ≡ state_with [] [] [] }
     requires rising { Rises (λ live. live.id) families.now }
     ensures state { OnOk result (state.new.state ≡ state_with (map family_line families.now) [] []) }

@@ -53,7 +53,7 @@ pub(crate) fn add_tables<D: Disk>(
 }
 
 /// Adds the tables to a state, and gives the greatest sequence number of a record in them.
-fn add_each<D: Disk>(
+pub(crate) fn add_each<D: Disk>(
     alloc: Global,
     disk: &mut D,
     tables: &[ListedTable<'_>],

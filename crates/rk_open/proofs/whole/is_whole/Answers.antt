@@ -1,0 +1,10 @@
+use Rattle.rk_bytes.specs.Model.DiskImages.{contents_told}
+use Rattle.rk_open.proofs.WholeLemmas.{whole_refused, whole_passes}
+use Rattle.rk_open.proofs.whole.is_whole.Goals as goal
+
+pub returns-in-Ok-clause-whole : goal.returns-in-Ok-clause-whole
+returns-in-Ok-clause-whole g c = whole_passes (contents_told (g.D.Disk.told c.args.disk.now)) c.args.file.now c.in-Ok.ensures.table
+
+pub returns-in-Err-clause-whole : goal.returns-in-Err-clause-whole
+returns-in-Err-clause-whole g c =
+    whole_refused (contents_told (g.D.Disk.told c.args.disk.now)) c.args.file.now c.in-Err.why c.can_be_used.result c.can_be_used.ensures.used c.in-Err.ensures.table
