@@ -18,3 +18,4 @@ mod SortLemmas
 mod PartLemmas
 mod CursorLemmas
 mod FamilyLemmas
+mod LeadLemmas

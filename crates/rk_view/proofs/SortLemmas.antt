@@ -1,10 +1,11 @@
 -- A stable sort of records turned round, and the first one of each slot: the last record of each slot, in their order.
-use Rattle.std.proofs.Common.{◌≡◌, ◌≤◌, Bool, true, false, not, cond, List, [], ◌∷◌, reverse, refl, sym, ap, subst, ◌∙◌}
+use Rattle.std.proofs.Common.{◌≡◌, ◌≤◌, Bool, true, false, not, cond, List, [], ◌∷◌, reverse, length, refl, sym, ap, subst, ◌∙◌}
 use Rattle.std.proofs.lemmas.List.Elements.{recursion_from_All}
 use Rattle.std.proofs.lemmas.List.Sorted.{All-permutation}
 use Rattle.std.proofs.lemmas.List.Kept.{IsStrictlySortedBy-dedup}
+use Rattle.std.proofs.lemmas.Map.Keys.{sorted_from_all_adjacent}
 use Rattle.std.specs.Prelude.{◌&&◌, Option, Some, None, filter, slice_get}
-use Rattle.std.specs.List.{All, AllByRecursion, dedup, dedup_from}
+use Rattle.std.specs.List.{All, AllAdjacentBelow, AllByRecursion, dedup, dedup_from}
 use Rattle.std.specs.List.Sorted.{IsPermutation, IsSorted, IsStrictlySortedBy, ties}
 use Rattle.std.specs.Cmp.{IsTotalOrder, on_total}
 use Rattle.std.specs.declared.cmp.Ordering.{Ordering}
@@ -14,7 +15,7 @@ use Rattle.rk_bytes.specs.declared.model.key.Record.{Record}
 use Rattle.rk_bytes.specs.Model.InternalKey.{top_sequence}
 use Rattle.rk_bytes.specs.Model.Records.{Slot, slot_cmp, slot_cmp-total, slot_of, last_records, get-last_records}
 use Rattle.rk_view.specs.Maps.{IsRun, AreNumbered, look, run_map}
-use Rattle.rk_view.proofs.SlotOrder.{slot_cmp-only_equal}
+use Rattle.rk_view.proofs.SlotOrder.{slot_cmp-only_equal, is_lt-Less}
 use Rattle.rk_view.proofs.RunLemmas.{Rises, turned_order}
 use Rattle.rk_view.proofs.MapLemmas.{same_records, get-run_map}
 use Rattle.rk_view.proofs.FirstLemmas.{equal, own_run}
@@ -31,7 +32,7 @@ before r s = is_lt (by_slot r s)
 abbrev pub of_one_slot : Record → Record → Bool
 of_one_slot r s = is_eq (by_slot r s)
 
-tied : (r s : Record) → ties before r s ≡ of_one_slot r s
+pub tied : (r s : Record) → ties before r s ≡ of_one_slot r s
 tied r s = by (by_slot r s) refl
   where
     by : (o : Ordering) → by_slot r s ≡ o → ties before r s ≡ of_one_slot r s
@@ -113,3 +114,20 @@ sorted_run xs ys low moved turned sorted = record {
 pub sorted_map : (xs ys : List Record) → IsRun (dedup of_one_slot ys) → ((r : Record) → filter (ties before r) ys ≡ filter (ties before r) (reverse xs)) → last_records (dedup of_one_slot ys) ≡ last_records xs
 sorted_map xs ys run stable = last_records-run (dedup of_one_slot ys) run.rises ∙ same_records (run_map (dedup of_one_slot ys)) (last_records xs) (λ q.
     get-run_map (dedup of_one_slot ys) q ∙ dedup_look q ys ∙ alike_look (reverse xs) ys stable q ∙ sym (get-last_records xs q))
+
+-- neighbours whose slots rise
+pub strictly_sorted : (xs : List Record) → AllAdjacentBelow (λ x y. true ≡ before x y) xs (length xs) → IsStrictlySortedBy by_slot xs
+unfolding IsStrictlySortedBy
+strictly_sorted [] up = tt
+strictly_sorted (x ∷ xs) up = sorted_from_all_adjacent by_slot-total (x ∷ xs) x (λ k within. is_lt-Less _ (sym (up k x within)))
+
+-- records whose slots rise already, and so none of them is dropped
+pub risen_run : (xs ys : List Record) → All (λ (r : Record). r.sequence ≤ top_sequence) xs → IsPermutation (reverse xs) ys → IsPermutation xs (reverse xs) → IsStrictlySortedBy by_slot ys → IsRun ys
+risen_run xs ys low moved turned up = record {
+  rises = strictly_rises ys up;
+  numbered = let P = λ (r : Record). r.sequence ≤ top_sequence in recursion_from_All P ys (All-permutation P (reverse xs) ys moved (All-permutation P xs (reverse xs) turned low));
+}
+
+pub risen_map : (xs ys : List Record) → IsRun ys → ((r : Record) → filter (ties before r) ys ≡ filter (ties before r) (reverse xs)) → last_records ys ≡ last_records xs
+risen_map xs ys run stable = last_records-run ys run.rises ∙ same_records (run_map ys) (last_records xs) (λ q.
+    get-run_map ys q ∙ alike_look (reverse xs) ys stable q ∙ sym (get-last_records xs q))

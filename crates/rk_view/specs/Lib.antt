@@ -6,3 +6,4 @@ pub mod Places
 pub mod Shown
 pub mod Merged
 pub mod Sources
+pub mod Leads

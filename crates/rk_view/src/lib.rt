@@ -5,6 +5,7 @@
 mod answer;
 mod cursor;
 mod family;
+mod lead;
 mod merge;
 mod next;
 mod parts;

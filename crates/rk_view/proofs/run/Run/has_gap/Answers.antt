@@ -1,4 +1,4 @@
-use Rattle.std.proofs.Common.{◌≡◌, ◌++◌, List, None, take, drop, subst, sym}
+use Rattle.std.proofs.Common.{◌≡◌, ◌++◌, None, take, drop, subst}
 use Rattle.std.specs.List.{All}
 use Rattle.rk_bytes.specs.declared.model.key.Record.{Record}
 use Rattle.rk_bytes.specs.Model.Records.{slot_of}
