@@ -7,8 +7,7 @@ use Rattle.rk_bytes.specs.Model.FileNames.{log_name, table_name}
 use Rattle.rk_bytes.specs.Model.LogItems.{log_items}
 use Rattle.rk_bytes.specs.declared.model.status.Status.TheVariants.{Usage}
 use Rattle.rk_bytes.specs.declared.model.command.SstPart.{SstPart}
-use Rattle.rk_bytes.specs.declared.model.command.How.TheVariants.{Normal}
-use Rattle.rk_bytes.specs.declared.model.wal.Mode.{Mode}
+use Rattle.rk_bytes.specs.declared.model.command.How.{How}
 use Rattle.rk_bytes.specs.Model.Grammar.{KeyWord, Command, scan, get as get_key, check, families, manifest_dump, dump_wal, sst, command_of}
 use Rattle.rk_bytes.specs.Model.Lines.{usage_line}
 use Rattle.rk_bytes.specs.Model.Output.{Output, state_of, scan_output, get_output, check_output, dump_wal_output, manifest_dump_output, families_output, sst_output, command_output, written, refused}
@@ -65,23 +64,23 @@ unfolding command_output
 output_of_table None command n part hex P is h = tt
 output_of_table (Some d) command n part hex P is h = subst (λ command. P (output_of command d)) (sym is) h
 
-pub output_of_scan : (o : Option Directory) (command : Command) (named : Option (List ℕ)) (mode : Mode) (from to : Option KeyWord) (hex : Bool) (P : Output → Type 0) → command ≡ scan named (Normal mode) from to hex
-    → IfSome o (λ d. P (scan_output named from to hex (state_of (Normal mode) d))) → IfSome o (λ d. P (output_of command d))
+pub output_of_scan : (o : Option Directory) (command : Command) (named : Option (List ℕ)) (opening : How) (from to : Option KeyWord) (hex : Bool) (P : Output → Type 0) → command ≡ scan named opening from to hex
+    → IfSome o (λ d. P (scan_output named from to hex (state_of opening d))) → IfSome o (λ d. P (output_of command d))
 unfolding command_output
-output_of_scan None command named mode from to hex P is h = tt
-output_of_scan (Some d) command named mode from to hex P is h = subst (λ command. P (output_of command d)) (sym is) h
+output_of_scan None command named opening from to hex P is h = tt
+output_of_scan (Some d) command named opening from to hex P is h = subst (λ command. P (output_of command d)) (sym is) h
 
-pub output_of_get : (o : Option Directory) (command : Command) (key : KeyWord) (named : Option (List ℕ)) (mode : Mode) (hex : Bool) (P : Output → Type 0) → command ≡ get_key key named (Normal mode) hex
-    → IfSome o (λ d. P (get_output key named hex (state_of (Normal mode) d))) → IfSome o (λ d. P (output_of command d))
+pub output_of_get : (o : Option Directory) (command : Command) (key : KeyWord) (named : Option (List ℕ)) (opening : How) (hex : Bool) (P : Output → Type 0) → command ≡ get_key key named opening hex
+    → IfSome o (λ d. P (get_output key named hex (state_of opening d))) → IfSome o (λ d. P (output_of command d))
 unfolding command_output
-output_of_get None command key named mode hex P is h = tt
-output_of_get (Some d) command key named mode hex P is h = subst (λ command. P (output_of command d)) (sym is) h
+output_of_get None command key named opening hex P is h = tt
+output_of_get (Some d) command key named opening hex P is h = subst (λ command. P (output_of command d)) (sym is) h
 
-pub output_of_check : (o : Option Directory) (command : Command) (mode : Mode) (P : Output → Type 0) → command ≡ check (Normal mode)
-    → IfSome o (λ d. P (check_output (Normal mode) d)) → IfSome o (λ d. P (output_of command d))
+pub output_of_check : (o : Option Directory) (command : Command) (opening : How) (P : Output → Type 0) → command ≡ check opening
+    → IfSome o (λ d. P (check_output opening d)) → IfSome o (λ d. P (output_of command d))
 unfolding command_output
-output_of_check None command mode P is h = tt
-output_of_check (Some d) command mode P is h = subst (λ command. P (output_of command d)) (sym is) h
+output_of_check None command opening P is h = tt
+output_of_check (Some d) command opening P is h = subst (λ command. P (output_of command d)) (sym is) h
 
 -- what is written of a command that the program doesn't have
 pub output_of_none : (o : Option Directory) (command other : Command) (P : Output → Type 0) → command ≡ other → built (Some other) ≡ None → P (record { lines = usage_line ∷ []; status = Usage })

@@ -127,6 +127,22 @@ line_then T before between now all lines line said result is same took more = by
     by (Ok x) more = Wrote-all before now all (Wrote-more before between now all lines [] h more)
     by (Err stop) more = Wrote-stopped T T before between now all lines [] stop h more
 
+-- lines that are taken whole, and then others up to a stop or to the end
+pub lines_then : (T : Type 0) (before between now : Option (List ℕ)) (lines more : List (List ℕ)) (result : Result T Stop) → Took before between (joined lines)
+    → TookUpTo between now more result → TookUpTo before now (lines ++ more) result
+lines_then T before between now lines more result took rest = by result rest
+  where
+    h : Wrote before between (lines ++ more) (more ++ [])
+    h = record { given = lines; whole = ap (λ more. lines ++ more) (sym (append-nil more)); taken = took }
+
+    by : (result : Result T Stop) → TookUpTo between now more result → TookUpTo before now (lines ++ more) result
+    by (Ok x) rest = Wrote-all before now (lines ++ more) (Wrote-more before between now (lines ++ more) more [] h rest)
+    by (Err stop) rest = Wrote-stopped T T before between now (lines ++ more) more [] stop h rest
+
+-- a stop among lines after which others would have come
+pub lines_stopped : (T U : Type 0) (before now : Option (List ℕ)) (lines more : List (List ℕ)) (stop : Stop) → TookUpTo {T = T} before now lines (Err stop) → TookUpTo {T = U} before now (lines ++ more) (Err stop)
+lines_stopped T U before now lines more stop took = Wrote-stopped T U before before now (lines ++ more) lines more stop (Wrote-nothing before (lines ++ more)) took
+
 -- the only line
 pub only_line : (T : Type 0) (before now : Option (List ℕ)) (all : List (List ℕ)) (line said : List ℕ) (result : Result T Stop) → all ≡ line ∷ [] → said ≡ line → TookLine before now said result → TookUpTo before now all result
 only_line T before now all line said result is same took =

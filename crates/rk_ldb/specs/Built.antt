@@ -3,18 +3,17 @@ use Rattle.std.specs.Prelude.{ℕ, Bool, false, List, [], Option, Some, None, op
 use Rattle.rk_bytes.specs.declared.model.command.SstPart.{SstPart}
 use Rattle.rk_bytes.specs.declared.model.command.SstPart.TheVariants.{Check}
 use Rattle.rk_bytes.specs.Model.DiskImages.{Directory}
-use Rattle.rk_bytes.specs.declared.model.command.How.TheVariants.{Normal}
 use Rattle.rk_bytes.specs.Model.Grammar.{Command, scan, get, families, manifest_dump, dump_wal, check, sst, hex_of, command_of}
 use Rattle.rk_bytes.specs.Model.Output.{Output, command_output}
 
 -- the command, where the program has it
 abbrev pub built : Option Command → Option Command
-built (Some (scan named (Normal mode) from to hex)) = Some (scan named (Normal mode) from to hex)
-built (Some (get key named (Normal mode) hex)) = Some (get key named (Normal mode) hex)
+built (Some (scan named opening from to hex)) = Some (scan named opening from to hex)
+built (Some (get key named opening hex)) = Some (get key named opening hex)
 built (Some families) = Some families
 built (Some (manifest_dump hex)) = Some (manifest_dump hex)
 built (Some (dump_wal n hex)) = Some (dump_wal n hex)
-built (Some (check (Normal mode))) = Some (check (Normal mode))
+built (Some (check opening)) = Some (check opening)
 built (Some (sst n part hex)) = Some (sst n part hex)
 built _ = None
 

@@ -38,6 +38,3 @@ pub(crate) fn families<D: Disk, S: Sink>(
         Err(why) => refuse(alloc, refusal_of(why)?, out),
     }
 }
-
-#[cfg(test)]
-mod tests;

@@ -1,7 +1,6 @@
 //! The command `get`.
 ghost use Rattle.std.specs.Prelude.{◌≡◌, ◌∷◌, [], IfOk, IfSome};
 ghost use Rattle.std.specs.Option.{option_copied};
-ghost use Rattle.rk_bytes.specs.declared.model.command.How.TheVariants as how;
 ghost use Rattle.rk_bytes.specs.Model.DiskImages.{IsLeft, contents_told};
 ghost use Rattle.rk_bytes.specs.Model.Grammar.{key_bytes};
 ghost use Rattle.rk_bytes.specs.Model.KeyView.{answer};
@@ -15,11 +14,11 @@ ghost use Rattle.rk_ldb.specs.Views.{family_answer, answer_output};
 
 use crate::keys::{KeyWord, family_name, key_bytes};
 use crate::lines::write_line;
+use crate::opening::open_state;
 use crate::refusal::{refusal_of, refuse, refuse_family};
 use crate::stop::Stop;
-use rk_bytes::model::{Mode, Status};
+use rk_bytes::model::{How, Status};
 use rk_disk::{Disk, Sink};
-use rk_open::open_db;
 use rk_text::Line;
 use rk_view::{Answer, State, view_get};
 use std::alloc::Global;
@@ -29,19 +28,19 @@ pub(crate) fn get<D: Disk, S: Sink>(
     alloc: Global,
     key: KeyWord<'_>,
     family: Option<&[u8]>,
-    mode: Mode,
+    how: How,
     hex: bool,
     disk: &mut D,
     out: &mut S,
 ) -> Result<Status, Stop>
-    ensures lines { IfSome (contents_told (D.told disk.old)) (λ d. TookUpTo (S.taken out.old) (S.taken out.new) (get_output (told_key key.entry) (option_copied family.entry) hex (state_of (how.Normal mode) d)).lines result) }
-    ensures status { IfSome (contents_told (D.told disk.old)) (λ d. IfOk result (λ status. status ≡ (get_output (told_key key.entry) (option_copied family.entry) hex (state_of (how.Normal mode) d)).status)) }
+    ensures lines { IfSome (contents_told (D.told disk.old)) (λ d. TookUpTo (S.taken out.old) (S.taken out.new) (get_output (told_key key.entry) (option_copied family.entry) hex (state_of how d)).lines result) }
+    ensures status { IfSome (contents_told (D.told disk.old)) (λ d. IfOk result (λ status. status ≡ (get_output (told_key key.entry) (option_copied family.entry) hex (state_of how d)).status)) }
     ensures answers { IfOk result IsGetAnswer }
     ensures disk_count { DiskCounts (D.faults disk.old) (D.faults disk.new) result }
     ensures output_count { SinkCounts (S.faults out.old) (S.faults out.new) result }
     ensures left { IsLeft (D.told disk.old) (D.told disk.new) }
 {
-    match open_db(alloc, disk, mode) {
+    match open_state(alloc, disk, how) {
         Ok(state) => get_of_family(alloc, &state, key, family, hex, out),
         Err(why) => refuse(alloc, refusal_of(why)?, out),
     }
@@ -132,6 +131,3 @@ fn status_of(answer: &Answer<'_>) -> Status
         _ => Status::Done,
     }
 }
-
-#[cfg(test)]
-mod tests;

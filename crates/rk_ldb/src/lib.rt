@@ -2,6 +2,7 @@
 #![tactic(auto)]
 
 mod batch;
+mod best;
 mod check;
 mod command;
 mod dump;
@@ -13,6 +14,7 @@ mod keys;
 mod lines;
 mod log_dump;
 mod manifest_dump;
+mod opening;
 mod program;
 mod refusal;
 mod scan;
@@ -25,6 +27,3 @@ pub use command::{Command, read_command};
 pub use keys::KeyWord;
 pub use program::{end_after_want_of_memory, run};
 pub use rk_bytes::model::Status;
-
-#[cfg(test)]
-mod tests;

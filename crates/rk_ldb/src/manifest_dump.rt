@@ -51,6 +51,3 @@ pub(crate) fn manifest_dump<D: Disk, S: Sink>(
         Err(why) => refuse(alloc, refusal_of(why)?, out),
     }
 }
-
-#[cfg(test)]
-mod tests;

@@ -19,7 +19,7 @@ use crate::scan::scan;
 use crate::sst::sst;
 use crate::stop::Stop;
 use rk_bytes::Text;
-use rk_bytes::model::{How, Status};
+use rk_bytes::model::Status;
 use rk_disk::{Disk, Sink, SinkErr};
 use std::alloc::Global;
 
@@ -108,26 +108,17 @@ fn write_answer<D: Disk, S: Sink>(
             from,
             to,
             hex,
-        } => match how {
-            How::Normal(mode) => scan(alloc, family, mode, from, to, hex, disk, out),
-            How::Best => answer_with_usage(out),
-        },
+        } => scan(alloc, family, how, from, to, hex, disk, out),
         Command::Get {
             key,
             family,
             how,
             hex,
-        } => match how {
-            How::Normal(mode) => get(alloc, key, family, mode, hex, disk, out),
-            How::Best => answer_with_usage(out),
-        },
+        } => get(alloc, key, family, how, hex, disk, out),
         Command::Families => families(alloc, disk, out),
         Command::ManifestDump { hex } => manifest_dump(alloc, hex, disk, out),
         Command::DumpWal { number, hex } => dump_wal(alloc, number, hex, disk, out),
-        Command::Check { how } => match how {
-            How::Normal(mode) => check(alloc, mode, disk, out),
-            How::Best => answer_with_usage(out),
-        },
+        Command::Check { how } => check(alloc, how, disk, out),
         Command::Repair => answer_with_usage(out),
         Command::Sst { number, part, hex } => sst(alloc, number, part, hex, disk, out),
         Command::Drill { number: _ } => answer_with_usage(out),

@@ -1,7 +1,6 @@
 //! The command `scan`.
 ghost use Rattle.std.specs.Prelude.{◌≡◌, IfOk, IfSome, map};
 ghost use Rattle.std.specs.Option.{option_copied, option_map};
-ghost use Rattle.rk_bytes.specs.declared.model.command.How.TheVariants as how;
 ghost use Rattle.rk_bytes.specs.Model.DiskImages.{IsLeft, contents_told};
 ghost use Rattle.rk_bytes.specs.Model.Grammar.{key_bytes};
 ghost use Rattle.rk_bytes.specs.Model.KeyView.{rows};
@@ -15,11 +14,11 @@ ghost use Rattle.rk_ldb.specs.Views.{family_rows};
 
 use crate::keys::{KeyWord, bound_bytes, family_name, lent};
 use crate::lines::write_line;
+use crate::opening::open_state;
 use crate::refusal::{refusal_of, refuse, refuse_family};
 use crate::stop::Stop;
-use rk_bytes::model::{Mode, Status};
+use rk_bytes::model::{How, Status};
 use rk_disk::{Disk, Sink};
-use rk_open::open_db;
 use rk_text::Line;
 use rk_view::{Row, State, ViewIter, view_iter};
 use std::alloc::Global;
@@ -29,21 +28,21 @@ use std::alloc::Global;
 pub(crate) fn scan<D: Disk, S: Sink>(
     alloc: Global,
     family: Option<&[u8]>,
-    mode: Mode,
+    how: How,
     from: Option<KeyWord<'_>>,
     to: Option<KeyWord<'_>>,
     hex: bool,
     disk: &mut D,
     out: &mut S,
 ) -> Result<Status, Stop>
-    ensures lines { IfSome (contents_told (D.told disk.old)) (λ d. TookUpTo (S.taken out.old) (S.taken out.new) (scan_output (option_copied family.entry) (option_map told_key from.entry) (option_map told_key to.entry) hex (state_of (how.Normal mode) d)).lines result) }
-    ensures status { IfSome (contents_told (D.told disk.old)) (λ d. IfOk result (λ status. status ≡ (scan_output (option_copied family.entry) (option_map told_key from.entry) (option_map told_key to.entry) hex (state_of (how.Normal mode) d)).status)) }
+    ensures lines { IfSome (contents_told (D.told disk.old)) (λ d. TookUpTo (S.taken out.old) (S.taken out.new) (scan_output (option_copied family.entry) (option_map told_key from.entry) (option_map told_key to.entry) hex (state_of how d)).lines result) }
+    ensures status { IfSome (contents_told (D.told disk.old)) (λ d. IfOk result (λ status. status ≡ (scan_output (option_copied family.entry) (option_map told_key from.entry) (option_map told_key to.entry) hex (state_of how d)).status)) }
     ensures answers { IfOk result IsCommandAnswer }
     ensures disk_count { DiskCounts (D.faults disk.old) (D.faults disk.new) result }
     ensures output_count { SinkCounts (S.faults out.old) (S.faults out.new) result }
     ensures left { IsLeft (D.told disk.old) (D.told disk.new) }
 {
-    match open_db(alloc, disk, mode) {
+    match open_state(alloc, disk, how) {
         Ok(state) => scan_family(alloc, &state, family, from, to, hex, out),
         Err(why) => refuse(alloc, refusal_of(why)?, out),
     }
@@ -134,6 +133,3 @@ fn write_row<S: Sink>(row: &Row<'_>, hex: bool, line: &mut Line, out: &mut S) ->
     line.set_row(row, hex)?;
     write_line(line.as_slice(), out)
 }
-
-#[cfg(test)]
-pub(crate) mod tests;

@@ -5,7 +5,7 @@ ghost use Rattle.rk_ldb.specs.Stops.{TookUpTo, OutputStops};
 use crate::lines::write_line;
 use crate::stop::Stop;
 use rk_bytes::Memory;
-use rk_bytes::model::{FamilyState, Property, RangeDel, Record};
+use rk_bytes::model::{FamilyState, Point, Property, RangeDel, Record};
 use rk_disk::Sink;
 use rk_text::Line;
 
@@ -27,6 +27,17 @@ impl Shown for FamilyState {
     /// A family's name stands between quotation marks in any case.
     fn set_in(&self, line: &mut Line, _hex: bool) -> Result<(), Memory> {
         line.set_family(self)
+    }
+}
+
+impl Shown for Point {
+    ghost use Rattle.rk_bytes.specs.Model.Lines.{point_line};
+
+    ghost shown = { λ _ point. point_line point };
+
+    /// A point has no bytes to show.
+    fn set_in(&self, line: &mut Line, _hex: bool) -> Result<(), Memory> {
+        line.set_point(self)
     }
 }
 

@@ -125,6 +125,3 @@ fn write_scan<D: Disk, S: Sink>(
     write_shown(table.table().ranges.as_slice(), hex, line, out)?;
     Ok(Status::Done)
 }
-
-#[cfg(test)]
-mod tests;

@@ -2,11 +2,14 @@
 #![tactic(auto)]
 
 mod batch;
+mod best;
+mod drill;
 mod edit;
 mod family;
 mod item;
 mod key;
 mod line;
+mod outcome;
 mod quote;
 mod refusal;
 mod table;
@@ -17,7 +20,5 @@ pub use edit::edit_lines;
 pub use item::item_line;
 pub use key::key_text;
 pub use line::Line;
+pub use outcome::Outcome;
 pub use quote::quoted;
-
-#[cfg(test)]
-mod tests;

@@ -1,6 +1,6 @@
 //! The lines of refusals.
 ghost use Rattle.std.specs.Prelude.{◌≡◌, ◌++◌, OnOk};
-ghost use Rattle.rk_bytes.specs.Model.Lines.{then_number, refusal_line, open_err_words, no_log_words, no_table_words, no_family_words, current_fault_words, manifest_fault_words, damaged_words, unsupported_words, wal_err_words, manifest_why_words, edit_why_words, apply_fault_words, which_word, table_why_word, table_what_words, log_what_words, unsupported_log_words, wal_why_words};
+ghost use Rattle.rk_bytes.specs.Model.Lines.{then_number, refusal_line, refused_words, open_err_words, no_log_words, no_table_words, no_family_words, current_fault_words, manifest_fault_words, damaged_words, unsupported_words, wal_err_words, manifest_why_words, edit_why_words, apply_fault_words, which_word, table_why_word, table_what_words, log_what_words, unsupported_log_words, wal_why_words};
 
 use crate::Line;
 use crate::item::why_word;
@@ -17,8 +17,7 @@ impl Line {
         ensures { OnOk result (self.new ≡ refusal_line (open_err_words why)) }
     {
         self.clear();
-        self.put(b"refused: ")?;
-        self.put_open_err(why)?;
+        self.put_refused(why)?;
         self.end()
     }
 
@@ -51,6 +50,14 @@ impl Line {
         self.put(b"refused: NoFamily ")?;
         self.put_quoted(name, false)?;
         self.end()
+    }
+
+    /// Puts that a database isn't opened, and why, at the end.
+    pub(crate) fn put_refused(&mut self, why: OpenErr) -> Result<(), Memory>
+        ensures { OnOk result (self.new ≡ self.old ++ refused_words (open_err_words why)) }
+    {
+        self.put(b"refused: ")?;
+        self.put_open_err(why)
     }
 
     /// Puts why a database isn't opened at the end.

@@ -1,7 +1,6 @@
 use Rattle.std.proofs.Common.{◌≡◌, refl, ap, ◌∙◌}
 use Rattle.std.specs.Prelude.{IfOk}
 use Rattle.std.specs.Option.{option_copied, option_map}
-use Rattle.rk_bytes.specs.declared.model.command.How.TheVariants.{Normal, Best}
 use Rattle.rk_bytes.specs.Model.DiskImages.{contents_told}
 use Rattle.rk_bytes.specs.Model.Grammar.{scan, get, families, manifest_dump, dump_wal, check, repair, sst, drill}
 use Rattle.rk_bytes.specs.Model.Output.{Output}
@@ -11,41 +10,41 @@ use Rattle.rk_ldb.proofs.Dumps.{output_of_scan, output_of_get, output_of_familie
 use Rattle.rk_ldb.proofs.Endings.{ends_command, ends_without}
 use Rattle.rk_ldb.proofs.program.write_answer.Goals as goal
 
-pub returns-in-Normal-clause-lines : goal.returns-in-Normal-clause-lines
-returns-in-Normal-clause-lines g c =
-    output_of_scan (contents_told (g.D.Disk.told c.args.disk.now)) (told c.args.command) (option_copied c.in-Scan.family) c.in-Normal.mode (option_map told_key c.in-Scan.from) (option_map told_key c.in-Scan.to) c.in-Scan.hex (λ (o : Output). TookUpTo (g.S.Sink.taken c.args.out.now) (g.S.Sink.taken c.scan.new.out) o.lines c.scan.result) (ap told c.in-Scan.is ∙ ap (λ how. scan (option_copied c.in-Scan.family) how (option_map told_key c.in-Scan.from) (option_map told_key c.in-Scan.to) c.in-Scan.hex) c.in-Normal.is) c.scan.ensures.lines
+pub returns-in-Scan-clause-lines : goal.returns-in-Scan-clause-lines
+returns-in-Scan-clause-lines g c =
+    output_of_scan (contents_told (g.D.Disk.told c.args.disk.now)) (told c.args.command) (option_copied c.in-Scan.family) c.in-Scan.how (option_map told_key c.in-Scan.from) (option_map told_key c.in-Scan.to) c.in-Scan.hex (λ (o : Output). TookUpTo (g.S.Sink.taken c.args.out.now) (g.S.Sink.taken c.scan.new.out) o.lines c.scan.result) (ap told c.in-Scan.is) c.scan.ensures.lines
 
-pub returns-in-Normal-clause-status : goal.returns-in-Normal-clause-status
-returns-in-Normal-clause-status g c =
-    output_of_scan (contents_told (g.D.Disk.told c.args.disk.now)) (told c.args.command) (option_copied c.in-Scan.family) c.in-Normal.mode (option_map told_key c.in-Scan.from) (option_map told_key c.in-Scan.to) c.in-Scan.hex (λ (o : Output). IfOk c.scan.result (λ status. status ≡ o.status)) (ap told c.in-Scan.is ∙ ap (λ how. scan (option_copied c.in-Scan.family) how (option_map told_key c.in-Scan.from) (option_map told_key c.in-Scan.to) c.in-Scan.hex) c.in-Normal.is) c.scan.ensures.status
+pub returns-in-Scan-clause-status : goal.returns-in-Scan-clause-status
+returns-in-Scan-clause-status g c =
+    output_of_scan (contents_told (g.D.Disk.told c.args.disk.now)) (told c.args.command) (option_copied c.in-Scan.family) c.in-Scan.how (option_map told_key c.in-Scan.from) (option_map told_key c.in-Scan.to) c.in-Scan.hex (λ (o : Output). IfOk c.scan.result (λ status. status ≡ o.status)) (ap told c.in-Scan.is) c.scan.ensures.status
 
-pub returns-in-Normal-clause-ends : goal.returns-in-Normal-clause-ends
-returns-in-Normal-clause-ends g c =
-    ends_command (g.S.Sink.taken c.args.out.now) (g.S.Sink.taken c.scan.new.out) (told c.args.command) (scan (option_copied c.in-Scan.family) (Normal c.in-Normal.mode) (option_map told_key c.in-Scan.from) (option_map told_key c.in-Scan.to) c.in-Scan.hex) c.scan.result (ap told c.in-Scan.is ∙ ap (λ how. scan (option_copied c.in-Scan.family) how (option_map told_key c.in-Scan.from) (option_map told_key c.in-Scan.to) c.in-Scan.hex) c.in-Normal.is) refl c.scan.ensures.answers
+pub returns-in-Scan-clause-ends : goal.returns-in-Scan-clause-ends
+returns-in-Scan-clause-ends g c =
+    ends_command (g.S.Sink.taken c.args.out.now) (g.S.Sink.taken c.scan.new.out) (told c.args.command) (scan (option_copied c.in-Scan.family) c.in-Scan.how (option_map told_key c.in-Scan.from) (option_map told_key c.in-Scan.to) c.in-Scan.hex) c.scan.result (ap told c.in-Scan.is) refl c.scan.ensures.answers
 
-pub returns-in-Normal-how-clause-lines : goal.returns-in-Normal-how-clause-lines
-returns-in-Normal-how-clause-lines g c =
-    output_of_get (contents_told (g.D.Disk.told c.args.disk.now)) (told c.args.command) (told_key c.in-Get.key) (option_copied c.in-Get.family) c.in-Normal-how.mode c.in-Get.hex (λ (o : Output). TookUpTo (g.S.Sink.taken c.args.out.now) (g.S.Sink.taken c.get.new.out) o.lines c.get.result) (ap told c.in-Get.is ∙ ap (λ how. get (told_key c.in-Get.key) (option_copied c.in-Get.family) how c.in-Get.hex) c.in-Normal-how.is) c.get.ensures.lines
+pub returns-in-Get-clause-lines : goal.returns-in-Get-clause-lines
+returns-in-Get-clause-lines g c =
+    output_of_get (contents_told (g.D.Disk.told c.args.disk.now)) (told c.args.command) (told_key c.in-Get.key) (option_copied c.in-Get.family) c.in-Get.how c.in-Get.hex (λ (o : Output). TookUpTo (g.S.Sink.taken c.args.out.now) (g.S.Sink.taken c.get.new.out) o.lines c.get.result) (ap told c.in-Get.is) c.get.ensures.lines
 
-pub returns-in-Normal-how-clause-status : goal.returns-in-Normal-how-clause-status
-returns-in-Normal-how-clause-status g c =
-    output_of_get (contents_told (g.D.Disk.told c.args.disk.now)) (told c.args.command) (told_key c.in-Get.key) (option_copied c.in-Get.family) c.in-Normal-how.mode c.in-Get.hex (λ (o : Output). IfOk c.get.result (λ status. status ≡ o.status)) (ap told c.in-Get.is ∙ ap (λ how. get (told_key c.in-Get.key) (option_copied c.in-Get.family) how c.in-Get.hex) c.in-Normal-how.is) c.get.ensures.status
+pub returns-in-Get-clause-status : goal.returns-in-Get-clause-status
+returns-in-Get-clause-status g c =
+    output_of_get (contents_told (g.D.Disk.told c.args.disk.now)) (told c.args.command) (told_key c.in-Get.key) (option_copied c.in-Get.family) c.in-Get.how c.in-Get.hex (λ (o : Output). IfOk c.get.result (λ status. status ≡ o.status)) (ap told c.in-Get.is) c.get.ensures.status
 
-pub returns-in-Normal-how-clause-ends : goal.returns-in-Normal-how-clause-ends
-returns-in-Normal-how-clause-ends g c =
-    ends_command (g.S.Sink.taken c.args.out.now) (g.S.Sink.taken c.get.new.out) (told c.args.command) (get (told_key c.in-Get.key) (option_copied c.in-Get.family) (Normal c.in-Normal-how.mode) c.in-Get.hex) c.get.result (ap told c.in-Get.is ∙ ap (λ how. get (told_key c.in-Get.key) (option_copied c.in-Get.family) how c.in-Get.hex) c.in-Normal-how.is) refl c.get.ensures.answers
+pub returns-in-Get-clause-ends : goal.returns-in-Get-clause-ends
+returns-in-Get-clause-ends g c =
+    ends_command (g.S.Sink.taken c.args.out.now) (g.S.Sink.taken c.get.new.out) (told c.args.command) (get (told_key c.in-Get.key) (option_copied c.in-Get.family) c.in-Get.how c.in-Get.hex) c.get.result (ap told c.in-Get.is) refl c.get.ensures.answers
 
-pub returns-in-Normal-how-2-clause-lines : goal.returns-in-Normal-how-2-clause-lines
-returns-in-Normal-how-2-clause-lines g c =
-    output_of_check (contents_told (g.D.Disk.told c.args.disk.now)) (told c.args.command) c.in-Normal-how-2.mode (λ (o : Output). TookUpTo (g.S.Sink.taken c.args.out.now) (g.S.Sink.taken c.check.new.out) o.lines c.check.result) (ap told c.in-Check.is ∙ ap check c.in-Normal-how-2.is) c.check.ensures.lines
+pub returns-in-Check-clause-lines : goal.returns-in-Check-clause-lines
+returns-in-Check-clause-lines g c =
+    output_of_check (contents_told (g.D.Disk.told c.args.disk.now)) (told c.args.command) c.in-Check.how (λ (o : Output). TookUpTo (g.S.Sink.taken c.args.out.now) (g.S.Sink.taken c.check.new.out) o.lines c.check.result) (ap told c.in-Check.is) c.check.ensures.lines
 
-pub returns-in-Normal-how-2-clause-status : goal.returns-in-Normal-how-2-clause-status
-returns-in-Normal-how-2-clause-status g c =
-    output_of_check (contents_told (g.D.Disk.told c.args.disk.now)) (told c.args.command) c.in-Normal-how-2.mode (λ (o : Output). IfOk c.check.result (λ status. status ≡ o.status)) (ap told c.in-Check.is ∙ ap check c.in-Normal-how-2.is) c.check.ensures.status
+pub returns-in-Check-clause-status : goal.returns-in-Check-clause-status
+returns-in-Check-clause-status g c =
+    output_of_check (contents_told (g.D.Disk.told c.args.disk.now)) (told c.args.command) c.in-Check.how (λ (o : Output). IfOk c.check.result (λ status. status ≡ o.status)) (ap told c.in-Check.is) c.check.ensures.status
 
-pub returns-in-Normal-how-2-clause-ends : goal.returns-in-Normal-how-2-clause-ends
-returns-in-Normal-how-2-clause-ends g c =
-    ends_command (g.S.Sink.taken c.args.out.now) (g.S.Sink.taken c.check.new.out) (told c.args.command) (check (Normal c.in-Normal-how-2.mode)) c.check.result (ap told c.in-Check.is ∙ ap check c.in-Normal-how-2.is) refl c.check.ensures.answers
+pub returns-in-Check-clause-ends : goal.returns-in-Check-clause-ends
+returns-in-Check-clause-ends g c =
+    ends_command (g.S.Sink.taken c.args.out.now) (g.S.Sink.taken c.check.new.out) (told c.args.command) (check c.in-Check.how) c.check.result (ap told c.in-Check.is) refl c.check.ensures.answers
 
 pub returns-in-Families-clause-lines : goal.returns-in-Families-clause-lines
 returns-in-Families-clause-lines g c =
@@ -95,53 +94,17 @@ pub returns-in-Sst-clause-ends : goal.returns-in-Sst-clause-ends
 returns-in-Sst-clause-ends g c =
     ends_command (g.S.Sink.taken c.args.out.now) (g.S.Sink.taken c.sst.new.out) (told c.args.command) (sst c.in-Sst.number c.in-Sst.part c.in-Sst.hex) c.sst.result (ap told c.in-Sst.is) refl c.sst.ensures.answers
 
-pub returns-in-Best-clause-lines : goal.returns-in-Best-clause-lines
-returns-in-Best-clause-lines g c =
-    output_of_none (contents_told (g.D.Disk.told c.args.disk.now)) (told c.args.command) (scan (option_copied c.in-Scan.family) Best (option_map told_key c.in-Scan.from) (option_map told_key c.in-Scan.to) c.in-Scan.hex) (λ (o : Output). TookUpTo (g.S.Sink.taken c.args.out.now) (g.S.Sink.taken c.answer_with_usage.new.out) o.lines c.answer_with_usage.result) (ap told c.in-Scan.is ∙ ap (λ how. scan (option_copied c.in-Scan.family) how (option_map told_key c.in-Scan.from) (option_map told_key c.in-Scan.to) c.in-Scan.hex) c.in-Best.is) refl c.answer_with_usage.ensures.lines
-
-pub returns-in-Best-clause-status : goal.returns-in-Best-clause-status
-returns-in-Best-clause-status g c =
-    output_of_none (contents_told (g.D.Disk.told c.args.disk.now)) (told c.args.command) (scan (option_copied c.in-Scan.family) Best (option_map told_key c.in-Scan.from) (option_map told_key c.in-Scan.to) c.in-Scan.hex) (λ (o : Output). IfOk c.answer_with_usage.result (λ status. status ≡ o.status)) (ap told c.in-Scan.is ∙ ap (λ how. scan (option_copied c.in-Scan.family) how (option_map told_key c.in-Scan.from) (option_map told_key c.in-Scan.to) c.in-Scan.hex) c.in-Best.is) refl c.answer_with_usage.ensures.status
-
-pub returns-in-Best-clause-ends : goal.returns-in-Best-clause-ends
-returns-in-Best-clause-ends g c =
-    ends_without (g.S.Sink.taken c.args.out.now) (g.S.Sink.taken c.answer_with_usage.new.out) (told c.args.command) (scan (option_copied c.in-Scan.family) Best (option_map told_key c.in-Scan.from) (option_map told_key c.in-Scan.to) c.in-Scan.hex) c.answer_with_usage.result (g.S.Sink.faults c.args.out.now) (g.S.Sink.faults c.answer_with_usage.new.out) (ap told c.in-Scan.is ∙ ap (λ how. scan (option_copied c.in-Scan.family) how (option_map told_key c.in-Scan.from) (option_map told_key c.in-Scan.to) c.in-Scan.hex) c.in-Best.is) refl c.answer_with_usage.ensures.line c.answer_with_usage.ensures.status c.answer_with_usage.ensures.counts
-
-pub returns-in-Best-how-clause-lines : goal.returns-in-Best-how-clause-lines
-returns-in-Best-how-clause-lines g c =
-    output_of_none (contents_told (g.D.Disk.told c.args.disk.now)) (told c.args.command) (get (told_key c.in-Get.key) (option_copied c.in-Get.family) Best c.in-Get.hex) (λ (o : Output). TookUpTo (g.S.Sink.taken c.args.out.now) (g.S.Sink.taken c.answer_with_usage-in-Best-how.new.out) o.lines c.answer_with_usage-in-Best-how.result) (ap told c.in-Get.is ∙ ap (λ how. get (told_key c.in-Get.key) (option_copied c.in-Get.family) how c.in-Get.hex) c.in-Best-how.is) refl c.answer_with_usage-in-Best-how.ensures.lines
-
-pub returns-in-Best-how-clause-status : goal.returns-in-Best-how-clause-status
-returns-in-Best-how-clause-status g c =
-    output_of_none (contents_told (g.D.Disk.told c.args.disk.now)) (told c.args.command) (get (told_key c.in-Get.key) (option_copied c.in-Get.family) Best c.in-Get.hex) (λ (o : Output). IfOk c.answer_with_usage-in-Best-how.result (λ status. status ≡ o.status)) (ap told c.in-Get.is ∙ ap (λ how. get (told_key c.in-Get.key) (option_copied c.in-Get.family) how c.in-Get.hex) c.in-Best-how.is) refl c.answer_with_usage-in-Best-how.ensures.status
-
-pub returns-in-Best-how-clause-ends : goal.returns-in-Best-how-clause-ends
-returns-in-Best-how-clause-ends g c =
-    ends_without (g.S.Sink.taken c.args.out.now) (g.S.Sink.taken c.answer_with_usage-in-Best-how.new.out) (told c.args.command) (get (told_key c.in-Get.key) (option_copied c.in-Get.family) Best c.in-Get.hex) c.answer_with_usage-in-Best-how.result (g.S.Sink.faults c.args.out.now) (g.S.Sink.faults c.answer_with_usage-in-Best-how.new.out) (ap told c.in-Get.is ∙ ap (λ how. get (told_key c.in-Get.key) (option_copied c.in-Get.family) how c.in-Get.hex) c.in-Best-how.is) refl c.answer_with_usage-in-Best-how.ensures.line c.answer_with_usage-in-Best-how.ensures.status c.answer_with_usage-in-Best-how.ensures.counts
-
-pub returns-in-Best-how-2-clause-lines : goal.returns-in-Best-how-2-clause-lines
-returns-in-Best-how-2-clause-lines g c =
-    output_of_none (contents_told (g.D.Disk.told c.args.disk.now)) (told c.args.command) (check Best) (λ (o : Output). TookUpTo (g.S.Sink.taken c.args.out.now) (g.S.Sink.taken c.answer_with_usage-in-Best-how-2.new.out) o.lines c.answer_with_usage-in-Best-how-2.result) (ap told c.in-Check.is ∙ ap check c.in-Best-how-2.is) refl c.answer_with_usage-in-Best-how-2.ensures.lines
-
-pub returns-in-Best-how-2-clause-status : goal.returns-in-Best-how-2-clause-status
-returns-in-Best-how-2-clause-status g c =
-    output_of_none (contents_told (g.D.Disk.told c.args.disk.now)) (told c.args.command) (check Best) (λ (o : Output). IfOk c.answer_with_usage-in-Best-how-2.result (λ status. status ≡ o.status)) (ap told c.in-Check.is ∙ ap check c.in-Best-how-2.is) refl c.answer_with_usage-in-Best-how-2.ensures.status
-
-pub returns-in-Best-how-2-clause-ends : goal.returns-in-Best-how-2-clause-ends
-returns-in-Best-how-2-clause-ends g c =
-    ends_without (g.S.Sink.taken c.args.out.now) (g.S.Sink.taken c.answer_with_usage-in-Best-how-2.new.out) (told c.args.command) (check Best) c.answer_with_usage-in-Best-how-2.result (g.S.Sink.faults c.args.out.now) (g.S.Sink.faults c.answer_with_usage-in-Best-how-2.new.out) (ap told c.in-Check.is ∙ ap check c.in-Best-how-2.is) refl c.answer_with_usage-in-Best-how-2.ensures.line c.answer_with_usage-in-Best-how-2.ensures.status c.answer_with_usage-in-Best-how-2.ensures.counts
-
 pub returns-in-Repair-clause-lines : goal.returns-in-Repair-clause-lines
 returns-in-Repair-clause-lines g c =
-    output_of_none (contents_told (g.D.Disk.told c.args.disk.now)) (told c.args.command) repair (λ (o : Output). TookUpTo (g.S.Sink.taken c.args.out.now) (g.S.Sink.taken c.answer_with_usage-in-Repair.new.out) o.lines c.answer_with_usage-in-Repair.result) (ap told c.in-Repair.is) refl c.answer_with_usage-in-Repair.ensures.lines
+    output_of_none (contents_told (g.D.Disk.told c.args.disk.now)) (told c.args.command) repair (λ (o : Output). TookUpTo (g.S.Sink.taken c.args.out.now) (g.S.Sink.taken c.answer_with_usage.new.out) o.lines c.answer_with_usage.result) (ap told c.in-Repair.is) refl c.answer_with_usage.ensures.lines
 
 pub returns-in-Repair-clause-status : goal.returns-in-Repair-clause-status
 returns-in-Repair-clause-status g c =
-    output_of_none (contents_told (g.D.Disk.told c.args.disk.now)) (told c.args.command) repair (λ (o : Output). IfOk c.answer_with_usage-in-Repair.result (λ status. status ≡ o.status)) (ap told c.in-Repair.is) refl c.answer_with_usage-in-Repair.ensures.status
+    output_of_none (contents_told (g.D.Disk.told c.args.disk.now)) (told c.args.command) repair (λ (o : Output). IfOk c.answer_with_usage.result (λ status. status ≡ o.status)) (ap told c.in-Repair.is) refl c.answer_with_usage.ensures.status
 
 pub returns-in-Repair-clause-ends : goal.returns-in-Repair-clause-ends
 returns-in-Repair-clause-ends g c =
-    ends_without (g.S.Sink.taken c.args.out.now) (g.S.Sink.taken c.answer_with_usage-in-Repair.new.out) (told c.args.command) repair c.answer_with_usage-in-Repair.result (g.S.Sink.faults c.args.out.now) (g.S.Sink.faults c.answer_with_usage-in-Repair.new.out) (ap told c.in-Repair.is) refl c.answer_with_usage-in-Repair.ensures.line c.answer_with_usage-in-Repair.ensures.status c.answer_with_usage-in-Repair.ensures.counts
+    ends_without (g.S.Sink.taken c.args.out.now) (g.S.Sink.taken c.answer_with_usage.new.out) (told c.args.command) repair c.answer_with_usage.result (g.S.Sink.faults c.args.out.now) (g.S.Sink.faults c.answer_with_usage.new.out) (ap told c.in-Repair.is) refl c.answer_with_usage.ensures.line c.answer_with_usage.ensures.status c.answer_with_usage.ensures.counts
 
 pub returns-in-Drill-clause-lines : goal.returns-in-Drill-clause-lines
 returns-in-Drill-clause-lines g c =

@@ -1,4 +1,3 @@
-use Rattle.rk_bytes.specs.declared.model.command.How.TheVariants as how
 use Rattle.rk_bytes.specs.Model.DiskImages.{contents_told}
 use Rattle.rk_bytes.specs.Model.Output.{Output}
 use Rattle.rk_ldb.specs.Stops.{TookUpTo}
@@ -12,10 +11,10 @@ use Rattle.rk_ldb.proofs.scan.scan.Goals as goal
 
 pub returns-in-Ok-clause-lines : goal.returns-in-Ok-clause-lines
 returns-in-Ok-clause-lines g c =
-    lines_of_opened (λ (kept : Kept). kept.state) (state_of (how.Normal c.args.mode)) (family_rows (option_copied c.args.family) (option_map told_key c.args.from) (option_map told_key c.args.to) c.args.hex) (λ (o : Output). TookUpTo (g.S.Sink.taken c.args.out.now) (g.S.Sink.taken c.scan_family.new.out) o.lines c.scan_family.result)
+    lines_of_opened (λ (kept : Kept). kept.state) (state_of c.args.how) (family_rows (option_copied c.args.family) (option_map told_key c.args.from) (option_map told_key c.args.to) c.args.hex) (λ (o : Output). TookUpTo (g.S.Sink.taken c.args.out.now) (g.S.Sink.taken c.scan_family.new.out) o.lines c.scan_family.result)
     (contents_told (g.D.Disk.told c.args.disk.now)) c.in-Ok.state c.in-Ok.ensures.state c.scan_family.ensures.lines
 
 pub returns-in_ok-refusal_of-in-Err-clause-lines : goal.returns-in_ok-refusal_of-in-Err-clause-lines
 returns-in_ok-refusal_of-in-Err-clause-lines g c =
-    lines_of_refused (λ (kept : Kept). kept.state) (state_of (how.Normal c.args.mode)) (family_rows (option_copied c.args.family) (option_map told_key c.args.from) (option_map told_key c.args.to) c.args.hex) (λ (o : Output). TookUpTo (g.S.Sink.taken c.args.out.now) (g.S.Sink.taken c.refuse.new.out) o.lines c.refuse.result)
+    lines_of_refused (λ (kept : Kept). kept.state) (state_of c.args.how) (family_rows (option_copied c.args.family) (option_map told_key c.args.from) (option_map told_key c.args.to) c.args.hex) (λ (o : Output). TookUpTo (g.S.Sink.taken c.args.out.now) (g.S.Sink.taken c.refuse.new.out) o.lines c.refuse.result)
     (contents_told (g.D.Disk.told c.args.disk.now)) c.in-Err.why c.in_ok-refusal_of-in-Err.field-0 c.in-Err.ensures.state c.in_ok-refusal_of-in-Err.ensures c.refuse.ensures.lines

@@ -6,7 +6,7 @@ use Rattle.std.proofs.Common.{◌∷◌, []}
 use Rattle.rk_bytes.specs.Model.Opening.{open_directory}
 use Rattle.rk_bytes.specs.Model.Output.{written, counts_line}
 use Rattle.rk_open.specs.Opened.{opened_of}
-use Rattle.rk_ldb.proofs.check.check.Goals as goal
+use Rattle.rk_ldb.proofs.check.check_in.Goals as goal
 
 pub returns-in-Ok-clause-lines : goal.returns-in-Ok-clause-lines
 returns-in-Ok-clause-lines g c =
