@@ -10,6 +10,3 @@ pub use builder::BatchBuilder;
 pub use record::BatchRecord;
 pub use rk_bytes::model::{BatchFault, Kind, LogWhat};
 pub use view::BatchView;
-
-#[cfg(test)]
-mod tests;

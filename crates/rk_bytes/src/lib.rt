@@ -18,6 +18,3 @@ pub use model::NumFault;
 pub use put::{put_fixed32, put_fixed64, put_prefixed, put_varint32, put_varint64};
 pub use seq::Seq;
 pub use text::Text;
-
-#[cfg(test)]
-mod tests;

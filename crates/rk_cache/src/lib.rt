@@ -11,6 +11,3 @@ mod status;
 pub use cache::BlockCache;
 pub use fault::{CacheFault, SourceErr};
 pub use rk_table::{Handle, Status, SumKind, TrailerFault};
-
-#[cfg(test)]
-mod tests;

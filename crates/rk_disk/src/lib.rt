@@ -19,6 +19,3 @@ pub use mem_disk::MemDisk;
 pub use mem_sink::MemSink;
 pub use read::{read_file, read_part, read_piece};
 pub use sink::{Sink, SinkErr};
-
-#[cfg(test)]
-mod tests;

@@ -15,6 +15,3 @@ pub use fields::{AddFile, Field};
 pub use rk_bytes::model::{EditFault, Seqs};
 pub use view::EditView;
 pub use write::write_field;
-
-#[cfg(test)]
-mod tests;

@@ -8,6 +8,3 @@ mod place;
 pub use key::{ParsedKey, TOP, cmp_keys, internal_key, kind_number, parse_key, split_key};
 pub use place::same_place;
 pub use rk_bytes::model::{KeyFault, Kind, Record};
-
-#[cfg(test)]
-mod tests;

@@ -18,6 +18,3 @@ pub use item::{FeedItem, Item, Piece};
 pub use reader::LogReader;
 pub use rk_bytes::model::{EndKind, GapWhy};
 pub use writer::LogWriter;
-
-#[cfg(test)]
-mod tests;

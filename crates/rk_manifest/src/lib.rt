@@ -18,6 +18,3 @@ pub use last::last_version;
 pub use rk_bytes::model::{EditWhy, ManifestFault, ManifestWhy, Which};
 pub use rk_version::{Unit, Version};
 pub use units::{Units, read_units};
-
-#[cfg(test)]
-mod tests;

@@ -23,6 +23,3 @@ pub use rk_bytes::model::{
 };
 pub use trailer::checked_block;
 pub use want::Want;
-
-#[cfg(test)]
-mod tests;

@@ -9,6 +9,3 @@ mod number;
 pub use current::read_current;
 pub use name::{read_name, write_name};
 pub use rk_bytes::model::{CurrentFault, FileName};
-
-#[cfg(test)]
-mod tests;

@@ -11,6 +11,3 @@ pub use lines::sst_lines;
 pub use open::{OpenTable, open_sized, open_table};
 pub use rk_bytes::model::SstPart;
 pub use rk_table::{Record, TableRef, TableWhat, TableWhy};
-
-#[cfg(test)]
-mod tests;

@@ -16,6 +16,3 @@ pub use hash32::xxh32;
 pub use hash64::xxh64;
 pub use masked::{mask, unmask};
 pub use rk_bytes::model::SumKind;
-
-#[cfg(test)]
-mod tests;

@@ -25,6 +25,3 @@ pub use rows::block_records;
 pub use run::StatusRun;
 pub use status::{Status, WalkErr};
 pub use whole::table_status;
-
-#[cfg(test)]
-mod tests;

@@ -10,6 +10,3 @@ mod span;
 
 pub use rk_bytes::model::{Cut, Tomb};
 pub use set::TombSet;
-
-#[cfg(test)]
-mod tests;

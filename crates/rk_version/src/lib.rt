@@ -31,6 +31,3 @@ pub use rk_bytes::model::{ApplyFault, FamilyState, FileMeta, Tracked, Version};
 pub use step::meta_of;
 pub use undo::{Undo, UndoErr};
 pub use unit::Unit;
-
-#[cfg(test)]
-mod tests;

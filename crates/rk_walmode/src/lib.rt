@@ -16,6 +16,3 @@ pub use logs::replay;
 pub use outcome::Replayed;
 pub use rk_bytes::model::{LogWhat, Mode, WalErr, WalWhy};
 pub use run::ReplayRun;
-
-#[cfg(test)]
-mod tests;
