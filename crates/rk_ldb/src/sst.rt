@@ -14,6 +14,7 @@ use crate::lines::write_line;
 use crate::refusal::{Refusal, refuse};
 use crate::shown::write_shown;
 use crate::stop::Stop;
+use rk_bytes::Seq;
 use rk_bytes::model::{SstPart, Status};
 use rk_disk::{Disk, Sink};
 use rk_open::OpenErr;
@@ -115,9 +116,13 @@ fn write_scan<D: Disk, S: Sink>(
     ensures output_count { SinkCounts (S.faults out.old) (S.faults out.new) result }
     ensures left { IsLeft (D.told disk.old) (D.told disk.new) }
 {
+    let mut used = Seq::new(alloc);
     loop {
-        match table.next_records(disk) {
-            Ok(Some(records)) => write_shown(records.as_slice(), hex, line, out)?,
+        match table.next_records_over(disk, used) {
+            Ok(Some(records)) => {
+                write_shown(records.as_slice(), hex, line, out)?;
+                used = records;
+            }
             Ok(None) => break,
             Err(why) => return refuse(alloc, table_refusal(number, why)?, out),
         }

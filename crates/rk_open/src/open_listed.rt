@@ -15,6 +15,7 @@ use rk_disk::Disk;
 use rk_names::{FileName, write_name};
 use rk_sst::{OpenTable, open_sized};
 use std::alloc::Global;
+use std::num::NonZeroUsize;
 
 /// Opens the table, whose records come under the family that the manifest gives it. The first refusal counts:
 /// `MissingTable`, `SizeMismatch`, and `DamagedTable` or `UnsupportedTable`.
@@ -30,13 +31,25 @@ pub(crate) fn open_table<D: Disk>(
 {
     check_size(alloc, disk, listed)?;
     let number = listed.file.number;
-    match open_sized(alloc, disk, number, listed.file.size) {
+    match open_sized(
+        alloc,
+        disk,
+        number,
+        listed.file.size,
+        every_block(listed.file.size),
+    ) {
         Ok(mut table) => {
             table.set_family(listed.family);
             Ok(table)
         }
         Err(why) => Err(table_fault(number, why)),
     }
+}
+
+/// A number of blocks that a table of so many bytes doesn't exceed, so that each of them is read once: a block takes
+/// more bytes than one.
+fn every_block(size: u64) -> NonZeroUsize {
+    NonZeroUsize::MIN.saturating_add(usize::try_from(size).unwrap_or(usize::MAX))
 }
 
 /// Tests that the table's file is there, and as long as the manifest states: `MissingTable` and `SizeMismatch` say

@@ -1,5 +1,5 @@
 //! The records of a table that is open, as one run.
-ghost use Rattle.std.specs.Prelude.{◌≡◌, ◌≤◌, ◌++◌, false, true, IfOk, IfSome, OnOk};
+ghost use Rattle.std.specs.Prelude.{◌≡◌, ◌≤◌, ◌++◌, [], false, true, IfErr, IfOk, IfSome, OnOk};
 ghost use Rattle.std.specs.List.{AllByRecursion};
 ghost use Rattle.rk_bytes.specs.Model.DiskImages.{IsLeft, Counts, contents_told};
 ghost use Rattle.rk_bytes.specs.Model.Opening.{are_within, greatest_sequence};
@@ -35,13 +35,24 @@ pub(crate) fn read_run<D: Disk>(
     ensures faults { Counts (open_failed result) (D.faults disk.old) (D.faults disk.new) }
     ensures left { IsLeft (D.told disk.old) (D.told disk.new) }
 {
-    let mut run = Vec::new(alloc);
+    let mut run = empty_run(alloc, table.table().entries)?;
     loop {
         match table.next_records(disk) {
             Ok(Some(records)) => join(file, records, &mut run)?,
             Ok(None) => return Ok(Seq::from_vec(run)),
             Err(why) => return Err(table_fault(file.number, why)),
         }
+    }
+}
+
+/// No record, and room for so many.
+fn empty_run(alloc: Global, entries: u64) -> Result<Vec<Record>, OpenErr>
+    ensures run { IfOk result (λ run. run.items ≡ []) }
+    ensures memory { IfErr result (λ why. why ≡ OpenErr.Memory) }
+{
+    match Vec::with_capacity(alloc, usize::try_from(entries).unwrap_or(0)) {
+        Ok(run) => Ok(run),
+        Err(_) => Err(OpenErr::Memory),
     }
 }
 

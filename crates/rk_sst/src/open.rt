@@ -57,15 +57,18 @@ pub fn open_table<D: Disk>(alloc: Global, disk: &mut D, number: u64) -> Result<O
     let Some(file_len) = disk.size(name.as_str())? else {
         return Err(SstErr::NoTable);
     };
-    open_sized(alloc, disk, number, file_len)
+    let most_blocks = NonZeroUsize::new(KEPT_BLOCKS).unwrap();
+    open_sized(alloc, disk, number, file_len, most_blocks)
 }
 
-/// Opens the table with this number, whose file has so many bytes, as `open_table` does. `NoTable` doesn't come.
+/// Opens the table with this number, whose file has so many bytes, as `open_table` does, and holds at most so many
+/// blocks at a time: what is held of its status isn't read again for its records. `NoTable` doesn't come.
 pub fn open_sized<D: Disk>(
     alloc: Global,
     disk: &mut D,
     number: u64,
     file_len: u64,
+    most_blocks: NonZeroUsize,
 ) -> Result<OpenTable, SstErr>
     requires there { IfSome (contents_told (D.told disk.old)) (HasLength number file_len) }
     ensures table { IfSome (contents_told (D.told disk.old)) (λ files. Opens files number result) }
@@ -73,7 +76,7 @@ pub fn open_sized<D: Disk>(
     ensures left { IsLeft (D.told disk.old) (D.told disk.new) }
     ensures faults { Counts (disk_failed result) (D.faults disk.old) (D.faults disk.new) }
 {
-    let mut cache = BlockCache::new(alloc, NonZeroUsize::new(KEPT_BLOCKS).unwrap())?;
+    let mut cache = BlockCache::new(alloc, most_blocks)?;
     match cache.read_status(disk, number, file_len)? {
         Status::Good(table) => Ok(OpenTable {
             alloc,
@@ -119,11 +122,31 @@ impl OpenTable {
         ensures left { IsLeft (D.told disk.old) (D.told disk.new) }
         ensures faults { Counts (disk_failed result) (D.faults disk.old) (D.faults disk.new) }
     {
+        let alloc = self.alloc;
+        self.next_records_over(disk, Seq::new(alloc))
+    }
+
+    /// The same records, in the memory of these as far as that goes, which are used no more.
+    pub fn next_records_over<D: Disk>(
+        &mut self,
+        disk: &mut D,
+        used: Seq<Record>,
+    ) -> Result<Option<Seq<Record>>, SstErr>
+        requires { IfSome (contents_told (D.told disk.old)) (IsOpen self.old) }
+        ensures records { IfSome (contents_told (D.told disk.old)) (λ files. GivesNext self.old files result self.new) }
+        ensures open { IfSome (contents_told (D.told disk.old)) (IsOpen self.new) }
+        ensures rising { RisesOn self.old result self.new.last }
+        ensures table { self.new.table ≡ self.old.table }
+        ensures block { Steps self.old result self.new.block }
+        ensures left { IsLeft (D.told disk.old) (D.told disk.new) }
+        ensures faults { Counts (disk_failed result) (D.faults disk.old) (D.faults disk.new) }
+    {
         if self.block >= self.table.index.as_slice().len() {
             return Ok(None);
         }
         let records = take_block(
             self.alloc,
+            used,
             &mut self.cache,
             disk,
             self.number,

@@ -19,13 +19,14 @@ use rk_bytes::{Bytes, Memory, Seq};
 use rk_cache::BlockCache;
 use rk_disk::Disk;
 use rk_ikey::{TOP, internal_key};
-use rk_table::block_records;
+use rk_table::block_records_over;
 use std::alloc::Global;
 
-/// Reads the records of the data block with this number of a table, which come after the last key that was given.
-/// The last key is then that of the last of them. After an error it is as before.
+/// Reads the records of the data block with this number of a table, which come after the last key that was given,
+/// in the memory of those that were used. The last key is then that of the last of them. After an error it is as before.
 pub(crate) fn take_block<D: Disk>(
     alloc: Global,
+    used: Seq<Record>,
     cache: &mut BlockCache,
     disk: &mut D,
     number: u64,
@@ -44,7 +45,7 @@ pub(crate) fn take_block<D: Disk>(
     ensures left { IsLeft (D.told disk.old) (D.told disk.new) }
     ensures faults { Counts (disk_failed result) (D.faults disk.old) (D.faults disk.new) }
 {
-    let records = read_records(alloc, cache, disk, number, table, block, last)?;
+    let records = read_records(alloc, used, cache, disk, number, table, block, last)?;
     keep_last(alloc, records.as_slice(), last)?;
     Ok(records)
 }
@@ -52,6 +53,7 @@ pub(crate) fn take_block<D: Disk>(
 /// Reads the records of the data block with this number of a table, which come after this key, if there is one.
 fn read_records<D: Disk>(
     alloc: Global,
+    used: Seq<Record>,
     cache: &mut BlockCache,
     disk: &mut D,
     number: u64,
@@ -70,7 +72,7 @@ fn read_records<D: Disk>(
 {
     let handle = table.index.as_slice()[block].block;
     match cache.read_block(disk, number, table.start, handle, table.sum) {
-        Ok(bytes) => records_in(alloc, table, block, key_slice(last), bytes),
+        Ok(bytes) => records_in(alloc, used, table, block, key_slice(last), bytes),
         Err(fault) => Err(block_err(handle.offset, fault)),
     }
 }
@@ -79,6 +81,7 @@ fn read_records<D: Disk>(
 /// key, if there is one.
 fn records_in(
     alloc: Global,
+    used: Seq<Record>,
     table: &TableRef,
     block: usize,
     last: Option<&[u8]>,
@@ -90,7 +93,7 @@ fn records_in(
     ensures rising { IfOk result (RiseFrom table.now.family (value_of last.entry)) }
     ensures calm { disk_failed result ≡ false }
 {
-    let records = block_records(alloc, table, block as u64, last, bytes)?;
+    let records = block_records_over(alloc, used, table, block as u64, last, bytes)?;
     Ok(records)
 }
 

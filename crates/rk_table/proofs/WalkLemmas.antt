@@ -16,7 +16,7 @@ use Rattle.rk_bytes.specs.declared.model.key.KeyFault.TheVariants.{Short, Unsupp
 use Rattle.rk_bytes.specs.declared.model.table.TableWhy.TheVariants.{BadKey, BadOrder, BadSeparator}
 use Rattle.rk_bytes.specs.Model.Numbers.{◌>>=◌}
 use Rattle.rk_bytes.specs.declared.model.block.BlockFault.{BlockFault}
-use Rattle.rk_bytes.specs.Model.BlockEntries.{Entry, with_fault}
+use Rattle.rk_bytes.specs.Model.BlockEntries.{Entry}
 use Rattle.rk_bytes.specs.Model.InternalKey.{KeyParts, user_key, packed, key_parts, key_cmp}
 use Rattle.rk_bytes.specs.Model.TableStatus.{TableFault, damaged, DataEntry, block_status, is_range_deletion, is_above, entry_after, records_after, last_key, separator_cmp, are_separated}
 use Rattle.rk_bytes.proofs.Callers.Readings.{passed, taken}

@@ -21,7 +21,7 @@ mod whole;
 pub use iter::TableIter;
 pub use rk_bytes::model::{Record, TableRef, TableWhat, TableWhy};
 pub use rk_meta::{Handle, IndexEntry, Property, RangeDel, SumKind, TrailerFault, Want};
-pub use rows::block_records;
+pub use rows::{block_records, block_records_over};
 pub use run::StatusRun;
 pub use status::{Status, WalkErr};
 pub use whole::table_status;

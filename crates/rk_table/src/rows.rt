@@ -38,13 +38,31 @@ pub fn block_records(
     // Of a good table's bytes, where what is left of its records begins with this block.
     ensures good { (bytes : List ℕ) (at : IndexEntry) (entries : List DataEntry) → slice_get table.now.index number ≡ Some at → checked_block (take table.now.start bytes) at.block table.now.sum ≡ Ok block.now → from_block bytes table.now number (value_of after.entry) ≡ Ok entries → TakesBlock bytes table.now number entries result }
 {
-    let place = table.index.as_slice()[number as usize].block.offset;
-    walk_records(alloc, table.family, place, after, block)
+    block_records_over(alloc, Seq::new(alloc), table, number, after, block)
 }
 
-/// The records of a data block at this place, under this family.
+/// The same records, in the memory of these as far as that goes, which are used no more.
+pub fn block_records_over(
+    alloc: Global,
+    used: Seq<Record>,
+    table: &TableRef,
+    number: u64,
+    after: Option<&[u8]>,
+    block: &[u8],
+) -> Result<Seq<Record>, WalkErr>
+    requires number { number < length table.now.index }
+    requires after { ForSome after (λ key. 8 ≤ length key.now) }
+    ensures records { (at : IndexEntry) → slice_get table.now.index number ≡ Some at → GivesRecords table.now.family at.block.offset (value_of after.entry) block.now result }
+    ensures good { (bytes : List ℕ) (at : IndexEntry) (entries : List DataEntry) → slice_get table.now.index number ≡ Some at → checked_block (take table.now.start bytes) at.block table.now.sum ≡ Ok block.now → from_block bytes table.now number (value_of after.entry) ≡ Ok entries → TakesBlock bytes table.now number entries result }
+{
+    let place = table.index.as_slice()[number as usize].block.offset;
+    walk_records(alloc, used.into_vec(), table.family, place, after, block)
+}
+
+/// The records of a data block at this place, under this family, in the memory of those that were used.
 fn walk_records(
     alloc: Global,
+    used: Vec<Record>,
     family: u32,
     place: u64,
     after: Option<&[u8]>,
@@ -53,10 +71,11 @@ fn walk_records(
     requires { ForSome after (λ key. 8 ≤ length key.now) }
     ensures { GivesRecords family place (value_of after.entry) block.now result }
 {
+    let mut used = used;
     let mut walk = Walk::new(alloc, place, after, block)?;
     let mut records = list_for(alloc, block.len())?;
     while let Some(checked) = walk.next()? {
-        push_record(alloc, &mut records, family, walk.key(), checked)?;
+        push_record(alloc, &mut used, &mut records, family, walk.key(), checked)?;
     }
     Ok(records)
 }
@@ -72,9 +91,10 @@ fn list_for(alloc: Global, block_len: usize) -> Result<Seq<Record>, WalkErr>
     }
 }
 
-/// Puts a data record under this internal key at the end.
+/// Puts a data record under this internal key at the end, in the memory of one that was used, if there is one.
 fn push_record(
     alloc: Global,
+    used: &mut Vec<Record>,
     records: &mut Seq<Record>,
     family: u32,
     key: &[u8],
@@ -84,13 +104,55 @@ fn push_record(
     ensures ok { OnOk result (records.new ≡ records.old ++ record_in family (handed_out checked.entry key.now) ∷ []) }
     ensures err { IfErr result (λ error. error ≡ WalkErr.Memory) }
 {
-    let Ok(record) = made_record(alloc, family, key, checked) else {
+    let Ok(record) = next_record(alloc, used, family, key, checked) else {
         return Err(WalkErr::Memory);
     };
     match records.push(record) {
         Ok(()) => Ok(()),
         Err(_) => Err(WalkErr::Memory),
     }
+}
+
+/// A data record under this internal key, in the memory of the last one that was used, if there is one.
+fn next_record(
+    alloc: Global,
+    used: &mut Vec<Record>,
+    family: u32,
+    key: &[u8],
+    checked: Checked<'_>,
+) -> Result<Record, Memory>
+    requires { 8 ≤ length key.now }
+    ensures { IfOk result (λ made. made ≡ record_in family (handed_out checked.entry key.now)) }
+{
+    match used.pop() {
+        Some(record) => refilled(record, family, key, checked),
+        None => made_record(alloc, family, key, checked),
+    }
+}
+
+/// A data record under this internal key, in the memory of another.
+fn refilled(used: Record, family: u32, key: &[u8], checked: Checked<'_>) -> Result<Record, Memory>
+    requires { 8 ≤ length key.now }
+    ensures { IfOk result (λ made. made ≡ record_in family (handed_out checked.entry key.now)) }
+{
+    let (user, _) = split_key(key);
+    Ok(Record {
+        family,
+        key: copied_over(used.key, user)?,
+        sequence: checked.sequence,
+        kind: checked.kind,
+        value: copied_over(used.value, checked.value)?,
+    })
+}
+
+/// The bytes, in the memory of others.
+fn copied_over(used: Bytes, bytes: &[u8]) -> Result<Bytes, Memory>
+    ensures { IfOk result (λ copy. copy ≡ bytes.now) }
+{
+    let mut used = used;
+    used.truncate(0);
+    used.append(bytes)?;
+    Ok(used)
 }
 
 /// A data record under this internal key.

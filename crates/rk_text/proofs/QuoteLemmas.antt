@@ -1,13 +1,13 @@
 -- Bytes as they are shown, chunk by chunk.
-use Rattle.std.proofs.Common.{◌≡◌, ℕ, ◌+◌, ◌/◌, ◌%◌, ◌<◌, ◌≤◌, ◌&&◌, Bool, true, false, List, [], ◌∷◌, ◌++◌, length, take, get_or, refl, sym, ap, ◌∙◌, append_assoc, length-take-le}
+use Rattle.std.proofs.Common.{◌≡◌, ℕ, ◌+◌, ◌*◌, ◌/◌, ◌%◌, ◌<◌, ◌≤◌, ◌&&◌, Bool, true, false, List, [], ◌∷◌, ◌++◌, length, take, get_or, set, refl, sym, ap, ◌∙◌, append_assoc, length-take-le, arith}
 use Rattle.std.specs.Prelude.{flat_map, slice_index, codes}
 use Rattle.std.specs.List.{list_all}
 use Rattle.std.proofs.Math.Seq.{take-append-add}
 use Rattle.std.proofs.lemmas.Bool.{false≢true, cond-true}
-use Rattle.std.proofs.lemmas.List.{append-nil, take_more, take-append-le}
+use Rattle.std.proofs.lemmas.List.{append-nil, take_more, take_more_set, take_at, length-set, take-append-le}
 use Rattle.std.proofs.lemmas.Grind.{flat_map-append}
 use borrow.Rule.Slice.PartMut.{put_mid, post_of}
-use Rattle.hex.specs.Hex.{encode_with, encode_lower}
+use Rattle.hex.specs.Hex.{encode_with, encode_lower, lower_digits}
 use Rattle.rk_bytes.specs.Model.Lines.{quoted, shown_byte, stands_for_itself}
 
 pub encode_with-append : (table xs ys : List ℕ) → encode_with table (xs ++ ys) ≡ encode_with table xs ++ encode_with table ys
@@ -66,3 +66,36 @@ unfolding quoted
 quoted_shown start front middle line bytes hex is first then last =
     last ∙ ap (λ middle. middle ++ codes "\"") (then ∙ ap (λ front. front ++ flat_map shown_byte bytes) first ∙ append_assoc start (codes "\"") (flat_map shown_byte bytes))
     ∙ append_assoc start (codes "\"" ++ flat_map shown_byte bytes) (codes "\"") ∙ ap (λ hex. start ++ quoted hex bytes) (sym is)
+
+-- the text of one more byte, of two digits, behind those that were written
+pub digits_more : (i high low : ℕ) (text bytes : List ℕ) → i < length bytes → 2 * i + 1 < length text
+    → high ≡ slice_index lower_digits (get_or bytes i 0 / 16) → low ≡ slice_index lower_digits (get_or bytes i 0 % 16)
+    → take (2 * i) text ≡ encode_lower (take i bytes)
+    → take (2 * (i + 1)) (set (set text (2 * i) high) (2 * i + 1) low) ≡ encode_lower (take (i + 1) bytes)
+unfolding encode_with
+digits_more i high low text bytes here room is_high is_low so_far =
+    let after : 2 * (i + 1) ≡ 2 * i + 1 + 1 = omega arith in
+    let first : 2 * i < length text = omega (arith, room) in
+    let one = set text (2 * i) high in
+    let long : 2 * i + 1 < length one = rw (length-set text (2 * i) high) room in
+    let written : List ℕ → List ℕ = encode_with lower_digits in
+    ap (λ n. take n (set one (2 * i + 1) low)) after
+    ∙ take_more_set one (2 * i + 1) low long
+    ∙ ap (λ front. front ++ low ∷ []) (take_more_set text (2 * i) high first)
+    ∙ append_assoc (take (2 * i) text) (high ∷ []) (low ∷ [])
+    ∙ ap (λ front. front ++ high ∷ low ∷ []) so_far
+    ∙ ap (λ high. written (take i bytes) ++ high ∷ low ∷ []) is_high
+    ∙ ap (λ low. written (take i bytes) ++ slice_index lower_digits (get_or bytes i 0 / 16) ∷ low ∷ []) is_low
+    ∙ sym (ap written (take_more bytes i 0 here) ∙ encode_with-append lower_digits (take i bytes) (get_or bytes i 0 ∷ []))
+
+length-spelled : (bytes : List ℕ) → length (encode_lower bytes) ≡ 2 * length bytes
+unfolding encode_with
+length-spelled [] = refl
+length-spelled (b ∷ bytes) = let more = length-spelled bytes in omega (arith, more)
+
+-- the digits of the bytes at the front of others
+pub front_spelled : (copy chunk rest digits : List ℕ) → digits ≡ encode_lower (copy ++ rest) → copy ≡ chunk
+    → take (2 * length chunk) digits ≡ encode_lower chunk
+front_spelled copy chunk rest digits are is =
+    ap (λ text. take (2 * length chunk) text) (are ∙ ap (λ front. encode_lower (front ++ rest)) is ∙ encode_with-append lower_digits chunk rest)
+    ∙ take_at (encode_lower chunk) (encode_lower rest) (2 * length chunk) (length-spelled chunk)

@@ -1,7 +1,7 @@
 //! Bytes as they are shown: in hexadecimal, or between quotation marks.
-ghost use Rattle.std.specs.Prelude.{◌≡◌, ◌≢◌, ◌*◌, ◌++◌, IfOk, OnOk, flat_map, take, length, ◌<◌, ◌≤◌};
+ghost use Rattle.std.specs.Prelude.{◌≡◌, ◌≢◌, ◌*◌, ◌++◌, IfOk, OnOk, flat_map, take, length, slice_index, ◌<◌, ◌≤◌};
 ghost use Rattle.std.specs.List.{list_all};
-ghost use Rattle.hex.specs.Hex.{encode_lower};
+ghost use Rattle.hex.specs.Hex.{encode_lower, lower_digits};
 ghost use Rattle.rk_bytes.specs.Model.Lines.{quoted, shown_byte, stands_for_itself};
 
 mod table;
@@ -60,12 +60,10 @@ impl Line {
         requires { length chunk.now ≤ CHUNK_LEN }
         ensures { OnOk result (self.new ≡ self.old ++ encode_lower chunk.now) }
     {
-        let mut buffer = [0; 2 * CHUNK_LEN];
-        let digits = &mut buffer[..2 * chunk.len()];
-        match hex::encode_to_slice(chunk, digits) {
-            Ok(()) => self.put(digits),
-            Err(_) => unreachable!(),
-        }
+        let mut whole = [0; CHUNK_LEN];
+        whole[..chunk.len()].copy_from_slice(chunk);
+        let text = digits(&whole);
+        self.put(&text[..2 * chunk.len()])
     }
 
     /// Puts the bytes at the end as they stand between quotation marks, those of a chunk of bytes at once.
@@ -92,6 +90,32 @@ impl Line {
         let mut buffer = [0; SHOWN_LEN * CHUNK_LEN];
         let len = show(chunk, &mut buffer);
         self.put(&buffer[..len])
+    }
+}
+
+/// The digits of a whole chunk, two for each byte. All are made alike, so that many are made at once.
+fn digits(bytes: &[u8; CHUNK_LEN]) -> [u8; 2 * CHUNK_LEN]
+    ensures { result ≡ encode_lower bytes.now }
+{
+    let mut text = [0; 2 * CHUNK_LEN];
+    for index in 0..CHUNK_LEN {
+        let byte = bytes[index];
+        text[2 * index] = digit(byte / 16);
+        text[2 * index + 1] = digit(byte % 16);
+    }
+    text
+}
+
+/// The digit of a number below 16.
+#[inline(always)]
+fn digit(number: u8) -> u8
+    requires { number < 16 }
+    ensures { result ≡ slice_index lower_digits number }
+{
+    if number < 10 {
+        b'0' + number
+    } else {
+        b'a' - 10 + number
     }
 }
 

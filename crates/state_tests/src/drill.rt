@@ -1,5 +1,6 @@
 // What is expected was made from the formats' descriptions by a program of another language.
 use rk_gen::make_directory;
+use rk_sum::crc32c;
 use std::test::Fail;
 
 // The table of two keys, of 471 bytes.
@@ -39,5 +40,17 @@ fn a_log_goes_on_in_the_next_block(rt: HostRuntime) -> Result<(), Fail> {
     let disk = make_directory(rt.alloc(), 1000)?;
     let len = disk.file("000005.log").map(|log| log.len());
     assert_eq!(rt; len, Some(37_969 + 38 - 1));
+    Ok(())
+}
+
+// A table of two data blocks, of which the first is closed when it has 4,096 bytes.
+#[test]
+fn a_table_goes_on_in_the_next_block(rt: HostRuntime) -> Result<(), Fail> {
+    let disk = make_directory(rt.alloc(), 300)?;
+    let Some(table) = disk.file("000004.sst") else {
+        return Err(Fail::new("there is no table"));
+    };
+    assert_eq!(rt; table.len(), 6680);
+    assert_eq!(rt; crc32c(table), 0xA02C_AE34);
     Ok(())
 }

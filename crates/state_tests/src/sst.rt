@@ -59,8 +59,9 @@ fn records_are_given_block_by_block(rt: HostRuntime) -> Result<(), Fail> {
         return Err(Fail::new("the table isn't opened"));
     };
     assert_eq!(rt; table.table().entries, 2);
+    let mut used = Seq::new(rt.alloc());
     for (key, sequence, value) in [(b"a", 1, b"x"), (b"b", 2, b"y")] {
-        let Ok(Some(records)) = table.next_records(&mut disk) else {
+        let Ok(Some(records)) = table.next_records_over(&mut disk, used) else {
             return Err(Fail::new("no block is given"));
         };
         match records.as_slice() {
@@ -71,6 +72,7 @@ fn records_are_given_block_by_block(rt: HostRuntime) -> Result<(), Fail> {
             }
             _ => return Err(Fail::new("the block hasn't one record")),
         }
+        used = records;
     }
     assert!(rt; matches!(table.next_records(&mut disk), Ok(None)));
     assert_eq!(rt; disk.disk.bytes_read("000004.sst"), 165);

@@ -21,12 +21,12 @@ returns-in_err-write_shown-in-Ok-Some-clause-lines g c =
     let now = g.S.Sink.taken c.write_shown.new.out in
     let first = c.args.table.now in
     let old = c.loop-records.table in
-    let new = c.next_records.new.self in
+    let new = c.next_records_over.new.self in
     let records = c.in-Ok-Some.records in
     let stop = c.in_err-write_shown-in-Ok-Some.field-0.0 in
     let stopped = err_from_is_err_and c.from_residual.result c.from_residual.ensures.1 in
     let given = subst (λ told. IfSome (contents_told told) (λ files. GivesNext old files (Ok (Some records)) new)) inv.left
-    (subst (λ (given : Result (Option (List Record)) SstErr). IfSome (contents_told (g.D.Disk.told c.loop-records.disk)) (λ files. GivesNext old files given new)) (c.in-Ok-Some.is ∙ ap Ok c.in-Ok-Some.field-0-is) c.next_records.ensures.records) in
+    (subst (λ (given : Result (Option (List Record)) SstErr). IfSome (contents_told (g.D.Disk.told c.loop-records.disk)) (λ files. GivesNext old files given new)) (c.in-Ok-Some.is ∙ ap Ok c.in-Ok-Some.field-0-is) c.next_records_over.ensures.records) in
     let took = subst (λ (records : List Record). TookUpTo {T = Unit {0}} between now (map (entry_line c.args.hex) records) (Err stop)) c.as_slice.ensures c.in_err-write_shown-in-Ok-Some.ensures.lines in
     subst (λ answer. IfSome o (λ files. TookUpTo before now (scan_lines c.args.hex first files) answer)) (sym (stopped.1 ∙ ap Err stopped.2))
     (block_stopped before between now c.args.hex first old new o records stop inv.scanned given c.in-Ok-Some.ensures.table took)
@@ -40,10 +40,10 @@ loop-records-preserved g c =
     let now = g.S.Sink.taken c.write_shown.new.out in
     let first = c.args.table.now in
     let old = c.loop-records.table in
-    let new = c.next_records.new.self in
+    let new = c.next_records_over.new.self in
     let records = c.in-Ok-Some.records in
     let given = subst (λ told. IfSome (contents_told told) (λ files. GivesNext old files (Ok (Some records)) new)) inv.left
-    (subst (λ (given : Result (Option (List Record)) SstErr). IfSome (contents_told (g.D.Disk.told c.loop-records.disk)) (λ files. GivesNext old files given new)) (c.in-Ok-Some.is ∙ ap Ok c.in-Ok-Some.field-0-is) c.next_records.ensures.records) in
+    (subst (λ (given : Result (Option (List Record)) SstErr). IfSome (contents_told (g.D.Disk.told c.loop-records.disk)) (λ files. GivesNext old files given new)) (c.in-Ok-Some.is ∙ ap Ok c.in-Ok-Some.field-0-is) c.next_records_over.ensures.records) in
     let took = subst (λ (records : List Record). Took between now (joined (map (entry_line c.args.hex) records))) c.as_slice.ensures c.in_ok-write_shown-in-Ok-Some.ensures.lines in record {
       left = search rules;
       disk_faults = search rules;
@@ -74,11 +74,11 @@ returns-in_err-write_shown-clause-lines g c =
     let now = g.S.Sink.taken c.write_shown-2.new.out in
     let first = c.args.table.now in
     let old = c.loop-records.table in
-    let new = c.next_records.new.self in
+    let new = c.next_records_over.new.self in
     let stop = c.in_err-write_shown.field-0.0 in
     let stopped = err_from_is_err_and c.from_residual-in_err-write_shown.result c.from_residual-in_err-write_shown.ensures.1 in
     let none = subst (λ told. IfSome (contents_told told) (λ files. GivesNext old files (Ok None) new)) inv.left
-    (subst (λ (given : Result (Option (List Record)) SstErr). IfSome (contents_told (g.D.Disk.told c.loop-records.disk)) (λ files. GivesNext old files given new)) (c.in-Ok-None.is ∙ ap Ok c.in-Ok-None.field-0-is) c.next_records.ensures.records) in
+    (subst (λ (given : Result (Option (List Record)) SstErr). IfSome (contents_told (g.D.Disk.told c.loop-records.disk)) (λ files. GivesNext old files given new)) (c.in-Ok-None.is ∙ ap Ok c.in-Ok-None.field-0-is) c.next_records_over.ensures.records) in
     subst (λ answer. IfSome o (λ files. TookUpTo before now (scan_lines c.args.hex first files) answer)) (sym (stopped.1 ∙ ap Err stopped.2))
     (ranges_stopped before between now c.args.hex first old new o c.as_slice-2.result.now stop inv.scanned none
     (c.as_slice-2.ensures ∙ ap (λ table. table.ranges) (c.table.ensures ∙ c.in-Ok-None.ensures.table)) c.in_err-write_shown.ensures.lines)

@@ -4,7 +4,7 @@ use Rattle.rk_bytes.specs.Model.DiskImages.{contents_told}
 use Rattle.rk_sst.specs.Seen.{OpenSeen}
 use Rattle.rk_sst.specs.Opened.{records_left, IsOpen, GivesNext}
 use Rattle.rk_sst.proofs.OpenLemmas.{gives_records, goes_on, only_causes}
-use Rattle.rk_sst.proofs.open.OpenTable.next_records.Goals as goal
+use Rattle.rk_sst.proofs.open.OpenTable.next_records_over.Goals as goal
 
 pub returns-in_err-records-clause-records : goal.returns-in_err-records-clause-records
 returns-in_err-records-clause-records g c =

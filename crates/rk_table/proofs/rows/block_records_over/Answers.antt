@@ -3,7 +3,7 @@ use Rattle.rk_bytes.specs.declared.model.block.IndexEntry.{IndexEntry}
 use Rattle.rk_table.specs.Told.{value_of}
 use Rattle.rk_table.specs.Rows.{GivesRecords}
 use Rattle.rk_table.proofs.LeftLemmas.{same_at, takes_block}
-use Rattle.rk_table.proofs.rows.block_records.Goals as goal
+use Rattle.rk_table.proofs.rows.block_records_over.Goals as goal
 
 pub returns-clause-good : goal.returns-clause-good
 returns-clause-good c = λ bytes at entries there handed read.
