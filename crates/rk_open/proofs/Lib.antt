@@ -6,6 +6,7 @@ mod DirectoryLemmas
 mod FoldLemmas
 mod FrontLemmas
 mod GreatestLemmas
+mod KeptLemmas
 mod LastLemmas
 mod LineLemmas
 mod ListedLemmas

@@ -32,11 +32,13 @@ use Rattle.rk_sst.specs.Rising.{RiseFrom}
 use Rattle.rk_view.specs.Kept.{with_records}
 use Rattle.rk_open.specs.Answers.{RefusesAs}
 use Rattle.rk_open.specs.Opened.{IsTopOf}
+use Rattle.rk_open.specs.Reads.{HoldsRun, IsRead}
+use Rattle.rk_open.specs.declared.read.ReadTable.{ReadTable}
 use Rattle.rk_open.specs.Tables.{HaveWholeBounds, IsListed, Adds, AddsTable, AddsTables, AreTables, IsTable, cut_ranges, run_within}
 use Rattle.rk_open.proofs.AddLemmas.{adds_none, adds_both, adds_run}
 use Rattle.rk_open.proofs.BoundLemmas.{within_family}
 use Rattle.rk_open.proofs.RecordLemmas.{last_records-append, greatest-append, greatest_fits, max_from}
-use Rattle.rk_open.proofs.RunLemmas.{numbered, refuses_on}
+use Rattle.rk_open.proofs.RunLemmas.{numbered, refuses_on, table_run}
 
 -- the sequence numbers of range deletions as records
 ranges_top : (family : ℕ) (ranges : List RangeDel) → map (λ (r : Record). r.sequence) (map (range_record family) ranges) ≡ map (λ (range : RangeDel). range.sequence) ranges
@@ -60,42 +62,59 @@ run_is file left run e = by (are_within file left) refl e
     by false is e = absurd cc
 
 -- the table that is told
-pub table_is : (d : Directory) (listed : Listed) (seen : OpenSeen) (run : List Record) (ranges : List RangeDel) → IsListed d listed seen → run_within listed.file (records_left seen d) ≡ Ok run → ranges ≡ seen.table.ranges
-    → IsTable (get d) listed (run ++ map (range_record listed.family) ranges) (cut_ranges listed ranges)
-table_is d listed seen run ranges is read same =
+holds_run : (d : Directory) (listed : Listed) (seen : OpenSeen) (run : List Record) (ranges : List RangeDel) → IsListed d listed seen → run_within listed.file (records_left seen d) ≡ Ok run → ranges ≡ seen.table.ranges → HoldsRun (get d) listed run ranges
+holds_run d listed seen run ranges is read same =
     let (within, left) = run_is listed.file (records_left seen d) run read in
     let good = is.good in
     let inside : are_within listed.file good.records ≡ true = sym (within_family listed.file listed.family good.records) ∙ ap (are_within listed.file) (sym is.left) ∙ within in
-    let ranges_are : ranges ≡ good.table.ranges = same ∙ is.ranges in
     record {
-      table = record { listed = listed; good = good };
+      good = good;
       is = is.is ∙ ap (λ (b : Bool). cond b (Ok (record { listed = listed; good = good })) (Err (OutOfBounds listed.file.number))) inside;
-      records_are = λ i. (sym left ∙ is.left) i ++ map (range_record listed.family) (ranges_are i);
-      tombs_are = ap (cut_ranges listed) ranges_are;
+      run_is = sym left ∙ is.left;
+      ranges_are = same ∙ is.ranges;
     }
 
--- An open table's run and its range deletions are added.
-pub adds_table : (o : Option Directory) (listed : Listed) (seen : OpenSeen) (old mid new : State) (run : List Record) (ranges : List RangeDel) (top : ℕ) → IfSome o (λ d. IsListed d listed seen) → IfSome o (λ d. run_within listed.file (records_left seen d) ≡ Ok run)
-    → RiseFrom seen.table.family seen.last run → ranges ≡ seen.table.ranges → AreBelowTop ranges → mid ≡ with_records run old → Adds (map (range_record listed.family) ranges) (cut_ranges listed ranges) mid new
-    → top ≡ fold max (greatest_sequence run) (map (λ range. range.sequence) ranges) → AddsTable o listed old new top
-adds_table o listed seen old mid new run ranges top is read rises same below added more top_is =
+-- An open table's run and its range deletions are read.
+pub reads_table : (o : Option Directory) (listed : Listed) (seen : OpenSeen) (table : ReadTable) → IfSome o (λ d. IsListed d listed seen) → IfSome o (λ d. run_within listed.file (records_left seen d) ≡ Ok table.run)
+    → RiseFrom seen.table.family seen.last table.run → table.ranges ≡ seen.table.ranges → AreBelowTop seen.table.ranges → IsRead o listed table
+reads_table o listed seen table is read rises same below = record {
+  run = table_run seen.table.family seen.last table.run rises;
+  below = subst AreBelowTop (sym same) below;
+  told = told o is read;
+}
+  where
+    told : (o : Option Directory) → IfSome o (λ d. IsListed d listed seen) → IfSome o (λ d. run_within listed.file (records_left seen d) ≡ Ok table.run) → IfSome o (λ d. HoldsRun (get d) listed table.run table.ranges)
+    told None is read = tt
+    told (Some d) is read = holds_run d listed seen table.run table.ranges is read same
+
+-- A table that was read is added.
+pub adds_table : (o : Option Directory) (listed : Listed) (table : ReadTable) (old mid new : State) (top : ℕ) → IsRead o listed table → mid ≡ with_records table.run old
+    → Adds (map (range_record listed.family) table.ranges) (cut_ranges listed table.ranges) mid new → top ≡ fold max (greatest_sequence table.run) (map (λ range. range.sequence) table.ranges) → AddsTable o listed old new top
+adds_table o listed table old mid new top is added more top_is =
+    let run = table.run in
+    let ranges = table.ranges in
     let records = run ++ map (range_record listed.family) ranges in
     let greatest : top ≡ greatest_sequence records =
     top_is ∙ max_from (greatest_sequence run) (map (λ range. range.sequence) ranges) ∙ ap (λ ns. max (greatest_sequence run) (fold max 0 ns)) (sym (ranges_top listed.family ranges))
     ∙ sym (greatest-append run (map (range_record listed.family) ranges)) in
-    let fit = each_both (λ (r : Record). r.sequence ≤ top_sequence) run (map (range_record listed.family) ranges) (numbered seen.table.family run rises.each) (ranges_fit listed.family ranges below) in
+    let fit = each_both (λ (r : Record). r.sequence ≤ top_sequence) run (map (range_record listed.family) ranges) (numbered is.run.family run is.run.each) (ranges_fit listed.family ranges is.below) in
     record {
       records = records;
       tombs = cut_ranges listed ranges;
       adds = adds_both run (map (range_record listed.family) ranges) [] (cut_ranges listed ranges) old mid new (adds_run run old mid added) more;
       top_is = greatest;
       bound = subst (λ (n : ℕ). n ≤ top_sequence) (sym greatest) (greatest_fits records fit);
-      told = told o is read;
+      told = told o is.told;
     }
   where
-    told : (o : Option Directory) → IfSome o (λ d. IsListed d listed seen) → IfSome o (λ d. run_within listed.file (records_left seen d) ≡ Ok run) → IfSome o (λ d. IsTable (get d) listed (run ++ map (range_record listed.family) ranges) (cut_ranges listed ranges))
-    told None is read = tt
-    told (Some d) is read = table_is d listed seen run ranges is read same
+    told : (o : Option Directory) → IfSome o (λ d. HoldsRun (get d) listed table.run table.ranges) → IfSome o (λ d. IsTable (get d) listed (table.run ++ map (range_record listed.family) table.ranges) (cut_ranges listed table.ranges))
+    told None holds = tt
+    told (Some d) holds = record {
+      table = record { listed = listed; good = holds.good };
+      is = holds.is;
+      records_are = λ i. holds.run_is i ++ map (range_record listed.family) (holds.ranges_are i);
+      tombs_are = ap (cut_ranges listed) holds.ranges_are;
+    }
 
 -- what is told of a good table in the end
 abbrev tested : Listed → Good → Bool → Result TableFile OpenErr

@@ -4,5 +4,6 @@ pub mod Faults
 pub mod Logged
 pub mod Logs
 pub mod Opened
+pub mod Reads
 pub mod Tables
 pub mod Versions

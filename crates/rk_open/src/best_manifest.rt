@@ -13,17 +13,19 @@ ghost use Rattle.rk_version.specs.Places.{Rises};
 ghost use Rattle.rk_version.specs.Units.{meaning};
 ghost use Rattle.rk_open.specs.Answers.{AnswersAs, AnswersBy, IsCause, open_failed};
 ghost use Rattle.rk_open.specs.Best.{best_of, best_from, best_if};
+ghost use Rattle.rk_open.specs.Reads.{AreKept};
 ghost use Rattle.rk_open.specs.Tables.{HaveWholeBounds};
 
 use crate::OpenErr;
 use crate::best::Best;
 use crate::fault::not_read;
+use crate::kept::KeptTables;
 use crate::listed::sorted_tables;
 use crate::placed::placed;
 use crate::state::add_families;
 use crate::tables::add_each;
 use crate::usable::{is_complete, usable_units};
-use crate::whole::test_files;
+use crate::whole::{TestedFiles, test_files};
 use rk_bytes::model::{FamilyState, Point, Version};
 use rk_bytes::{Memory, Seq};
 use rk_disk::{Disk, read_file};
@@ -113,9 +115,16 @@ fn open_units<D: Disk>(
     ensures left { IsLeft (D.told disk.old) (D.told disk.new) }
 {
     match whole_points(alloc, disk, units) {
-        Ok(points) => open_points(alloc, disk, number, units, version, points),
+        Ok(whole) => open_points(alloc, disk, number, units, version, whole),
         Err(why) => Err(why),
     }
+}
+
+/// The best points of units, and the tables that were read to find them.
+#[derive(Debug, Drop)]
+struct WholePoints {
+    points: Seq<Point>,
+    kept: KeptTables,
 }
 
 /// The best points of units that are applied.
@@ -123,11 +132,12 @@ fn whole_points<D: Disk>(
     alloc: Global,
     disk: &mut D,
     units: &[Unit<'_>],
-) -> Result<Seq<Point>, OpenErr>
+) -> Result<WholePoints, OpenErr>
     requires reads { All ReadsWhole units.now }
     requires applies { IsOk (version_at (map meaning units.now) (length units.now)) }
-    ensures points { IfOk result (λ points. IfSome (contents_told (D.told disk.old)) (λ d. points ≡ best_points (map meaning units.now) (all_pass (is_whole_in (get d)) (map meaning units.now)))) }
-    ensures vector { IfOk result (IsVector (map meaning units.now)) }
+    ensures points { IfOk result (λ whole. IfSome (contents_told (D.told disk.old)) (λ d. whole.points ≡ best_points (map meaning units.now) (all_pass (is_whole_in (get d)) (map meaning units.now)))) }
+    ensures vector { IfOk result (λ whole. IsVector (map meaning units.now) whole.points) }
+    ensures kept { IfOk result (λ whole. AreKept (contents_told (D.told disk.old)) whole.kept) }
     ensures cause { IfErr result IsCause }
     ensures faults { Counts (open_failed result) (D.faults disk.old) (D.faults disk.new) }
     ensures left { IsLeft (D.told disk.old) (D.told disk.new) }
@@ -137,34 +147,36 @@ fn whole_points<D: Disk>(
     let Ok(files) = listed(alloc, units) else {
         return Err(OpenErr::Memory);
     };
-    let whole = test_files(alloc, disk, files.as_slice())?;
-    match best_points(alloc, units, whole.as_slice()) {
-        Ok(points) => Ok(points),
+    let TestedFiles { answers, kept } = test_files(alloc, disk, files.as_slice())?;
+    match best_points(alloc, units, answers.as_slice()) {
+        Ok(points) => Ok(WholePoints { points, kept }),
         Err(Memory) => Err(OpenErr::Memory),
     }
 }
 
-/// What units that are applied are opened to at these points.
+/// What units that are applied are opened to at these points. Tables that are kept aren't read again.
 fn open_points<D: Disk>(
     alloc: Global,
     disk: &mut D,
     number: u64,
     units: &[Unit<'_>],
     version: &Version,
-    points: Seq<Point>,
+    whole: WholePoints,
 ) -> Result<Best, OpenErr>
     requires reads { All ReadsWhole units.now }
     requires version { version_after 1 (map meaning units.now) first_version ≡ Ok version.now }
-    requires vector { IsVector (map meaning units.now) points }
-    ensures best { IfSome (contents_told (D.told disk.old)) (λ d. AnswersBy best_of (best_with (get d) number (map meaning units.now) points) result) }
+    requires vector { IsVector (map meaning units.now) whole.points }
+    requires kept { AreKept (contents_told (D.told disk.old)) whole.kept }
+    ensures best { IfSome (contents_told (D.told disk.old)) (λ d. AnswersBy best_of (best_with (get d) number (map meaning units.now) whole.points) result) }
     ensures faults { Counts (open_failed result) (D.faults disk.old) (D.faults disk.new) }
     ensures left { IsLeft (D.told disk.old) (D.told disk.new) }
 {
+    let WholePoints { points, kept } = whole;
     let families = version.families.as_slice();
     let Ok(families) = placed(alloc, units, families, points.as_slice()) else {
         return Err(OpenErr::Memory);
     };
-    match load(alloc, disk, families.as_slice()) {
+    match load(alloc, disk, families.as_slice(), kept) {
         Ok(state) => Ok(Best {
             state,
             manifest: number,
@@ -175,17 +187,23 @@ fn open_points<D: Disk>(
     }
 }
 
-/// The state of families in rising id, with what their tables hold.
-fn load<D: Disk>(alloc: Global, disk: &mut D, families: &[FamilyState]) -> Result<State, OpenErr>
+/// The state of families in rising id, with what their tables hold. Those that are kept aren't read again.
+fn load<D: Disk>(
+    alloc: Global,
+    disk: &mut D,
+    families: &[FamilyState],
+    kept: KeptTables,
+) -> Result<State, OpenErr>
     requires rising { Rises (λ live. live.id) families.now }
     requires bounds { HaveWholeBounds families.now }
+    requires kept { AreKept (contents_told (D.told disk.old)) kept }
     ensures loaded { IfSome (contents_told (D.told disk.old)) (λ d. AnswersAs (λ tables state. state.state ≡ state_with (map family_line families.now) tables []) (collected (table_file (get d)) (listed_tables families.now)) result) }
     ensures faults { Counts (open_failed result) (D.faults disk.old) (D.faults disk.new) }
     ensures left { IsLeft (D.told disk.old) (D.told disk.new) }
 {
     let mut state = State::new(alloc);
     match add_families(&mut state, families) {
-        Ok(()) => load_tables(alloc, disk, families, state),
+        Ok(()) => load_tables(alloc, disk, families, kept, state),
         Err(Memory) => Err(OpenErr::Memory),
     }
 }
@@ -195,19 +213,22 @@ fn load_tables<D: Disk>(
     alloc: Global,
     disk: &mut D,
     families: &[FamilyState],
+    kept: KeptTables,
     state: State,
 ) -> Result<State, OpenErr>
     requires bounds { HaveWholeBounds families.now }
+    requires kept { AreKept (contents_told (D.told disk.old)) kept }
     requires state { state.state ≡ state_with (map family_line families.now) [] [] }
     ensures loaded { IfSome (contents_told (D.told disk.old)) (λ d. AnswersAs (λ tables state. state.state ≡ state_with (map family_line families.now) tables []) (collected (table_file (get d)) (listed_tables families.now)) result) }
     ensures faults { Counts (open_failed result) (D.faults disk.old) (D.faults disk.new) }
     ensures left { IsLeft (D.told disk.old) (D.told disk.new) }
 {
+    let mut kept = kept;
     let mut state = state;
     let Ok(tables) = sorted_tables(alloc, families) else {
         return Err(OpenErr::Memory);
     };
-    match add_each(alloc, disk, tables.as_slice(), &mut state) {
+    match add_each(alloc, disk, tables.as_slice(), &mut kept, &mut state) {
         Ok(_) => Ok(state),
         Err(why) => Err(why),
     }

@@ -5,64 +5,81 @@ ghost use Rattle.std.specs.FinMap.{get};
 ghost use Rattle.rk_bytes.specs.declared.model.open.OpenErr.{OpenErr as Refusal};
 ghost use Rattle.rk_bytes.specs.Model.BestEfforts.{can_be_used, is_whole_in};
 ghost use Rattle.rk_bytes.specs.Model.DiskImages.{IsLeft, Counts, contents_told};
-ghost use Rattle.rk_bytes.specs.Model.Opening.{Files, TableFile, table_file};
+ghost use Rattle.rk_bytes.specs.Model.Opening.{Files, TableFile};
 ghost use Rattle.rk_version.specs.Bounds.{HasWholeBounds};
-ghost use Rattle.rk_open.specs.Answers.{IsCause, Passes, RefusesAs, open_failed};
-ghost use Rattle.rk_open.specs.Tables.{listed_of, IsListed};
+ghost use Rattle.rk_open.specs.Answers.{IsCause, RefusesAs, open_failed};
+ghost use Rattle.rk_open.specs.Reads.{AreKept};
 
 use crate::OpenErr;
+use crate::kept::{KeptTables, is_alike};
 use crate::listed::ListedTable;
-use crate::open_listed::open_table;
-use crate::run::read_run;
+use crate::read::read_table;
 use rk_bytes::Memory;
 use rk_bytes::model::FileMeta;
 use rk_disk::Disk;
-use rk_sst::OpenTable;
 use std::alloc::Global;
 use std::collections::BTreeMap;
 
-/// Whether each of the files is whole. One that is stated again as the last one with its number was isn't read
-/// again. `DiskFault` comes where the disk fails, and `Memory` where memory runs out.
+/// What the test of some files gives.
+#[derive(Debug, Drop)]
+pub(crate) struct TestedFiles {
+    /// For each file whether it is whole.
+    pub(crate) answers: Vec<bool>,
+    /// Of each number the last table that was found whole, where it is supported.
+    pub(crate) kept: KeptTables,
+}
+
+/// Whether each of the files is whole, and what the whole ones hold. One that is stated again as the last one with its
+/// number was isn't read again. `DiskFault` comes where the disk fails, and `Memory` where memory runs out.
 pub(crate) fn test_files<D: Disk>(
     alloc: Global,
     disk: &mut D,
     files: &[FileMeta],
-) -> Result<Vec<bool>, OpenErr>
+) -> Result<TestedFiles, OpenErr>
     requires { AllByRecursion HasWholeBounds files.now }
-    ensures answers { IfOk result (λ answers. IfSome (contents_told (D.told disk.old)) (λ d. answers.items ≡ map (is_whole_in (get d)) files.now)) }
-    ensures count { IfOk result (λ answers. length answers.items ≡ length files.now) }
+    ensures answers { IfOk result (λ tested. IfSome (contents_told (D.told disk.old)) (λ d. tested.answers.items ≡ map (is_whole_in (get d)) files.now)) }
+    ensures count { IfOk result (λ tested. length tested.answers.items ≡ length files.now) }
+    ensures kept { IfOk result (λ tested. AreKept (contents_told (D.told disk.old)) tested.kept) }
     ensures cause { IfErr result IsCause }
     ensures faults { Counts (open_failed result) (D.faults disk.old) (D.faults disk.new) }
     ensures left { IsLeft (D.told disk.old) (D.told disk.new) }
 {
     let mut tested = Tested::new(alloc);
+    let mut kept = KeptTables::new(alloc);
     for file in files {
-        let whole = answer_for(alloc, disk, files, &tested, file)?;
+        let whole = answer_for(alloc, disk, files, &tested, file, &mut kept)?;
         if let Err(Memory) = tested.push(file.number, whole) {
             return Err(OpenErr::Memory);
         }
     }
-    Ok(tested.into_answers())
+    Ok(TestedFiles {
+        answers: tested.into_answers(),
+        kept,
+    })
 }
 
-/// Whether the file is whole, of which the answers for the first of these files may tell.
+/// Whether the file is whole, of which the answers for the first of these files may tell. Where it is read and whole,
+/// it is kept.
 fn answer_for<D: Disk>(
     alloc: Global,
     disk: &mut D,
     files: &[FileMeta],
     tested: &Tested,
     file: &FileMeta,
+    kept: &mut KeptTables,
 ) -> Result<bool, OpenErr>
     requires bounds { HasWholeBounds file.now }
     requires tested { IfSome (contents_told (D.told disk.old)) (λ d. tested.now.answers.items ≡ map (is_whole_in (get d)) (take (length tested.now.answers.items) files.now)) }
+    requires kept { AreKept (contents_told (D.told disk.old)) kept.old }
     ensures whole { IfOk result (λ whole. IfSome (contents_told (D.told disk.old)) (λ d. whole ≡ is_whole_in (get d) file.now)) }
+    ensures kept { OnOk result (AreKept (contents_told (D.told disk.old)) kept.new) }
     ensures cause { IfErr result IsCause }
     ensures faults { Counts (open_failed result) (D.faults disk.old) (D.faults disk.new) }
     ensures left { IsLeft (D.told disk.old) (D.told disk.new) }
 {
     match tested.answer(files, file) {
         Some(whole) => Ok(whole),
-        None => is_whole(alloc, disk, file),
+        None => is_whole(alloc, disk, file, kept),
     }
 }
 
@@ -126,69 +143,28 @@ impl Tested {
     }
 }
 
-/// Whether the two are stated to be the same file, with the same size and bounds.
-fn is_alike(one: &FileMeta, other: &FileMeta) -> bool
-    ensures number { result ≡ true → one.now.number ≡ other.now.number }
-    ensures size { result ≡ true → one.now.size ≡ other.now.size }
-    ensures smallest { result ≡ true → one.now.smallest ≡ other.now.smallest }
-    ensures largest { result ≡ true → one.now.largest ≡ other.now.largest }
-{
-    if one.number != other.number || one.size != other.size {
-        return false;
-    }
-    if one.smallest.as_slice() != other.smallest.as_slice() {
-        return false;
-    }
-    one.largest.as_slice() == other.largest.as_slice()
-}
-
 /// Whether the file is there with the stated size and isn't damaged, and its records lie within the stated bounds. A
-/// file that isn't supported counts too.
-fn is_whole<D: Disk>(alloc: Global, disk: &mut D, file: &FileMeta) -> Result<bool, OpenErr>
-    requires { HasWholeBounds file.now }
+/// file that isn't supported counts too. What is read of a whole one is kept.
+fn is_whole<D: Disk>(
+    alloc: Global,
+    disk: &mut D,
+    file: &FileMeta,
+    kept: &mut KeptTables,
+) -> Result<bool, OpenErr>
+    requires bounds { HasWholeBounds file.now }
+    requires kept { AreKept (contents_told (D.told disk.old)) kept.old }
     ensures whole { IfOk result (λ whole. IfSome (contents_told (D.told disk.old)) (λ d. whole ≡ is_whole_in (get d) file.now)) }
+    ensures kept { OnOk result (AreKept (contents_told (D.told disk.old)) kept.new) }
     ensures cause { IfErr result IsCause }
     ensures faults { Counts (open_failed result) (D.faults disk.old) (D.faults disk.new) }
     ensures left { IsLeft (D.told disk.old) (D.told disk.new) }
 {
     match read_table(alloc, disk, &ListedTable { family: 0, file }) {
-        Ok(()) => Ok(true),
+        Ok(table) => match kept.keep(alloc, file, table) {
+            Ok(()) => Ok(true),
+            Err(Memory) => Err(OpenErr::Memory),
+        },
         Err(why) => can_be_used(why),
-    }
-}
-
-/// Reads all records of a table.
-fn read_table<D: Disk>(alloc: Global, disk: &mut D, listed: &ListedTable<'_>) -> Result<(), OpenErr>
-    requires { HasWholeBounds listed.now.file.now }
-    ensures table { IfSome (contents_told (D.told disk.old)) (λ d. Passes (table_file (get d) (listed_of listed.now)) result) }
-    ensures faults { Counts (open_failed result) (D.faults disk.old) (D.faults disk.new) }
-    ensures left { IsLeft (D.told disk.old) (D.told disk.new) }
-{
-    match open_table(alloc, disk, listed) {
-        Ok(mut table) => read_open(alloc, disk, listed, &mut table),
-        Err(why) => Err(why),
-    }
-}
-
-/// Reads all records of a table that is open.
-fn read_open<D: Disk>(
-    alloc: Global,
-    disk: &mut D,
-    listed: &ListedTable<'_>,
-    table: &mut OpenTable,
-) -> Result<(), OpenErr>
-    requires bounds { HasWholeBounds listed.now.file.now }
-    requires opened { IfSome (contents_told (D.told disk.old)) (λ d. IsListed d (listed_of listed.now) table.old) }
-    ensures table { IfSome (contents_told (D.told disk.old)) (λ d. Passes (table_file (get d) (listed_of listed.now)) result) }
-    ensures faults { Counts (open_failed result) (D.faults disk.old) (D.faults disk.new) }
-    ensures left { IsLeft (D.told disk.old) (D.told disk.new) }
-{
-    match read_run(alloc, disk, listed.file, table) {
-        Ok(records) => {
-            drop(records);
-            Ok(())
-        }
-        Err(why) => Err(why),
     }
 }
 

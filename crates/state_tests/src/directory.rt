@@ -3,7 +3,7 @@ use crate::current::FIRST;
 use rk_bytes::model::{WalErr, WalWhy};
 use rk_bytes::{Bytes, Memory};
 use rk_disk::MemDisk;
-use rk_open::{Mode, OpenErr, open_db, open_full};
+use rk_open::{Mode, OpenErr, open_best, open_db, open_full};
 use std::alloc::Global;
 use std::test::Fail;
 
@@ -20,6 +20,10 @@ const ADDS_LONGER: &[u8] =
 
 const ADDS_ELSEWHERE: &[u8] =
     b"\xbd\x5b\xbd\x1c\x18\0\x01\x07\0\x04r\x09b\x01\x01\0\0\0\0\0\0\x09b\x01\x01\0\0\0\0\0\0";
+
+/// An edit that moves table 4 to level 1.
+const MOVES: &[u8] =
+    b"u\xf5%~\x1b\0\x01\x06\0\x04\x07\x01\x04r\x09a\x01\x01\0\0\0\0\0\0\x09a\x01\x01\0\0\0\0\0\0";
 
 /// Edits that track log 3 with 48 synced bytes, and that forget the logs below 4.
 const TRACKS: &[u8] = b"E\xa4\x01_\x07\0\x01\x87@\x04\x03\x020\x01";
@@ -69,6 +73,25 @@ fn listed_tables_are_tested(rt: HostRuntime) -> Result<(), Fail> {
         disk.put_file("000004.sst", &TABLE)?;
         assert_eq!(rt; count(alloc, &mut disk, Mode::PointInTime), wanted);
     }
+    Ok(())
+}
+
+/// How many units count for the only family, and how many records there are, by best efforts.
+fn by_best_efforts(alloc: Global, disk: &mut MemDisk) -> Option<(u64, u64)> {
+    let best = open_best(alloc, disk).ok()?;
+    match best.points.as_slice() {
+        [point] => Some((point.at, best.state.count())),
+        _ => None,
+    }
+}
+
+#[test]
+fn a_table_that_is_moved_is_read_once(rt: HostRuntime) -> Result<(), Fail> {
+    let alloc = rt.alloc();
+    let mut disk = database(alloc, [ADDS, MOVES])?;
+    disk.put_file("000004.sst", &TABLE)?;
+    assert_eq!(rt; by_best_efforts(alloc, &mut disk), Some((3, 1)));
+    assert_eq!(rt; disk.bytes_read("000004.sst"), 114);
     Ok(())
 }
 

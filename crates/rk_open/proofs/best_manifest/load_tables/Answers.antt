@@ -16,8 +16,8 @@ state_alone : (o : Option Directory) (wanted : List Listed) (lines : List Family
 state_alone None wanted lines new top loaded = tt
 state_alone (Some d) wanted lines new top loaded = let (tables, are, is) = loaded in (tables, are, is.0)
 
-pub add_each-requires : goal.add_each-requires
-add_each-requires g c =
+pub add_each-requires-clause-bounds : goal.add_each-requires-clause-bounds
+add_each-requires-clause-bounds g c =
     let same = ap (map listed_of) c.as_slice.ensures.value ∙ c.in-Ok.ensures in
     listed_whole listed_of c.as_slice.result.now c.args.families.now same c.requires.bounds
 
@@ -30,7 +30,7 @@ returns-in-Ok-add_each-clause-loaded g c =
     loads o (map listed_of c.as_slice.result.now) (listed_tables families) (map family_line families) c.args.state.state c.add_each.new.state.state c.in-Ok-add_each.field-0 same c.requires.state c.in-Ok-add_each.ensures.tables
     )
 
-pub returns-in-Err-clause-loaded : goal.returns-in-Err-clause-loaded
-returns-in-Err-clause-loaded g c =
+pub returns-clause-loaded : goal.returns-clause-loaded
+returns-clause-loaded g c =
     let same = ap (map listed_of) c.as_slice.ensures.value ∙ c.in-Ok.ensures in
     subst (λ (listed : List Listed). IfSome (contents_told (g.D.Disk.told c.args.disk.now)) (λ d. RefusesAs (collected (table_file (get d)) listed) c.in-Err.why)) same c.in-Err.ensures.tables

@@ -16,13 +16,13 @@ load-requires-clause-rising g c =
     let whole = version_whole units version c.requires.version in
     let each_is = c.in-Ok.ensures ∙ (λ i. placed units (c.as_slice-families.ensures i) (c.as_slice.ensures i)) in
     subst (Rises (λ live. live.id)) (sym c.as_slice-2.ensures)
-    (each_rises c.args.number units version c.args.points whole c.requires.vector.families (at_whole units (units_meant c.args.units.now) (length units) version whole).0 c.in-Ok.families each_is)
+    (each_rises c.args.number units version c.args.whole.points whole c.requires.vector.families (at_whole units (units_meant c.args.units.now) (length units) version whole).0 c.in-Ok.families each_is)
 
 pub load-requires-clause-bounds : goal.load-requires-clause-bounds
 load-requires-clause-bounds g c =
     let units = map meaning c.args.units.now in
     let each_is = c.in-Ok.ensures ∙ (λ i. placed units (c.as_slice-families.ensures i) (c.as_slice.ensures i)) in
-    subst HaveWholeBounds (sym (c.as_slice-2.ensures ∙ each_is)) (placed_whole units (units_meant c.args.units.now) c.args.version.now.families c.args.points)
+    subst HaveWholeBounds (sym (c.as_slice-2.ensures ∙ each_is)) (placed_whole units (units_meant c.args.units.now) c.args.version.now.families c.args.whole.points)
 
 pub returns-in-Ok-load-clause-best : goal.returns-in-Ok-load-clause-best
 returns-in-Ok-load-clause-best g c =
@@ -32,7 +32,7 @@ returns-in-Ok-load-clause-best g c =
     let whole = version_whole units version c.requires.version in
     let each_is = c.in-Ok.ensures ∙ (λ i. placed units (c.as_slice-families.ensures i) (c.as_slice.ensures i)) in
     let loaded = subst (λ families. Loaded o families c.in-Ok-load.state.state) c.as_slice-2.ensures c.in-Ok-load.ensures.loaded in
-    points_loaded c.args.number units version c.args.points whole c.requires.vector.families (at_whole units (units_meant c.args.units.now) (length units) version whole).0 c.in-Ok.families each_is o c.in-Ok-load.state.state loaded
+    points_loaded c.args.number units version c.args.whole.points whole c.requires.vector.families (at_whole units (units_meant c.args.units.now) (length units) version whole).0 c.in-Ok.families each_is o c.in-Ok-load.state.state loaded
     (length c.args.units.now) (length-map meaning c.args.units.now)
 
 pub returns-in-Err-clause-best : goal.returns-in-Err-clause-best
@@ -43,4 +43,4 @@ returns-in-Err-clause-best g c =
     let whole = version_whole units version c.requires.version in
     let each_is = c.in-Ok.ensures ∙ (λ i. placed units (c.as_slice-families.ensures i) (c.as_slice.ensures i)) in
     let refused = subst (λ families. Refused o families c.in-Err.why) c.as_slice-2.ensures c.in-Err.ensures.loaded in
-    points_refused c.args.number units version c.args.points whole c.requires.vector.families (at_whole units (units_meant c.args.units.now) (length units) version whole).0 c.in-Ok.families each_is o c.in-Err.why refused
+    points_refused c.args.number units version c.args.whole.points whole c.requires.vector.families (at_whole units (units_meant c.args.units.now) (length units) version whole).0 c.in-Ok.families each_is o c.in-Err.why refused

@@ -18,9 +18,9 @@ pub returns-in-Ok-best_points-clause-points : goal.returns-in-Ok-best_points-cla
 returns-in-Ok-best_points-clause-points g c =
     let o = contents_told (g.D.Disk.told c.args.disk.now) in
     let units = map meaning c.args.units.now in
-    let answers = c.in_ok-whole.whole.items in
+    let answers = c.in_ok-answers.field-0.answers.items in
     points_told o units answers c.in-Ok-best_points.points (c.answers_of_a_test.ensures units) (c.in-Ok-best_points.ensures ∙ ap (λ answers. best_points units (answers_pass answers units)) c.as_slice-2.ensures.value)
-    (subst (λ (files : List FileMeta). IfSome o (λ d. answers ≡ map (is_whole_in (get d)) files)) (c.as_slice.ensures ∙ c.in-Ok.ensures) c.in_ok-whole.ensures.answers)
+    (subst (λ (files : List FileMeta). IfSome o (λ d. answers ≡ map (is_whole_in (get d)) files)) (c.as_slice.ensures ∙ c.in-Ok.ensures) c.in_ok-answers.ensures.answers)
 
 pub returns-in-Ok-best_points-clause-vector : goal.returns-in-Ok-best_points-clause-vector
 returns-in-Ok-best_points-clause-vector g c =

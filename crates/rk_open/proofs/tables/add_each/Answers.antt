@@ -1,9 +1,10 @@
-use Rattle.std.proofs.Common.{rules, subst}
+use Rattle.std.proofs.Common.{rules, sym, subst}
 use Rattle.std.specs.Prelude.{IfSome}
 use Rattle.std.specs.FinMap.{get}
 use Rattle.rk_bytes.specs.Model.DiskImages.{contents_told}
 use Rattle.rk_bytes.specs.Model.Opening.{table_file}
 use Rattle.rk_open.specs.Answers.{RefusesAs}
+use Rattle.rk_open.specs.Reads.{AreKept}
 use Rattle.rk_open.specs.Tables.{listed_of, AddsTable}
 use Rattle.rk_open.proofs.TablesLemmas.{tables_none, each_more, each_refuses, greater_is}
 use Rattle.rk_open.proofs.tables.add_each.Goals as goal
@@ -13,7 +14,11 @@ loop-table-init g c = record {
   left = search rules;
   faults = search rules;
   added = tables_none (contents_told (g.D.Disk.told c.args.disk.now)) c.args.state.now.state;
+  kept = c.requires.kept;
 }
+
+pub add_table-requires-clause-kept : goal.add_table-requires-clause-kept
+add_table-requires-clause-kept g c = let inv = c.loop-table.invariant in subst (λ told. AreKept (contents_told told) c.loop-table.kept) (sym inv.left) inv.kept
 
 pub loop-table-preserved : goal.loop-table-preserved
 loop-table-preserved g c =
@@ -24,6 +29,7 @@ loop-table-preserved g c =
       left = search rules;
       faults = search rules;
       added = each_more listed_of c.args.tables.now c.loop-table.table-index table c.table-item.is c.loop-table-test.true o c.args.state.now.state c.loop-table.state.state c.add_table.new.state.state c.loop-table.top c.in-Ok.own c.max-top.result inv.added own (greater_is c.loop-table.top c.in-Ok.own c.max-top.result c.max-top.ensures);
+      kept = subst (λ told. AreKept (contents_told told) c.add_table.new.kept) inv.left c.in-Ok.ensures.kept;
     }
 
 pub returns-in-Err-clause-tables : goal.returns-in-Err-clause-tables

@@ -10,8 +10,8 @@ use Rattle.rk_open.proofs.TablesLemmas.{listed_whole, loads, top_of}
 use Rattle.rk_open.proofs.VersionLemmas.{last_whole}
 use Rattle.rk_open.proofs.tables.add_tables.Goals as goal
 
-pub add_each-requires : goal.add_each-requires
-add_each-requires g c =
+pub add_each-requires-clause-bounds : goal.add_each-requires-clause-bounds
+add_each-requires-clause-bounds g c =
     let same = ap (map listed_of) c.as_slice-2.ensures.value ∙ c.in-Ok.ensures ∙ ap listed_tables c.as_slice.ensures in
     listed_whole listed_of c.as_slice-2.result.now c.args.version.now.families same (last_whole c.args.version.now c.requires.last)
 
