@@ -2,7 +2,7 @@
 ghost use Rattle.std.specs.Prelude.{◌≤◌};
 
 use rk_bytes::model::Kind;
-use rk_bytes::{Bytes, Memory, Seq};
+use rk_bytes::{Bytes, Memory};
 use rk_table::*;
 use std::alloc::Global;
 use std::test::Fail;
@@ -157,30 +157,6 @@ fn properties_and_range_deletions_are_known(rt: HostRuntime) -> Result<(), Fail>
         _ => return Err(Fail::new("the table isn't good")),
     }
     Ok(())
-}
-
-#[test]
-fn records_are_read_in_the_memory_of_others(rt: HostRuntime) -> Result<(), Fail> {
-    let bytes = second_table(rt.alloc())?;
-    let Status::Good(table) = table_status(rt.alloc(), bytes.as_slice())? else {
-        return Err(Fail::new("the table isn't good"));
-    };
-    let mut records = Seq::new(rt.alloc());
-    for _ in 0..2 {
-        match block_records_over(rt.alloc(), records, &table, 0, None, &FIRST_BLOCK[..49]) {
-            Ok(read) => records = read,
-            Err(_) => return Err(Fail::new("the block isn't read")),
-        }
-    }
-    match records.as_slice() {
-        [one, _, three] => {
-            assert_eq!(rt; one.key.as_slice(), b"b".as_slice());
-            assert_eq!(rt; one.value.as_slice(), b"one".as_slice());
-            assert_eq!(rt; three.key.as_slice(), b"bc".as_slice());
-            Ok(())
-        }
-        _ => Err(Fail::new("there aren't three records")),
-    }
 }
 
 #[test]

@@ -91,7 +91,8 @@ fn a_table_that_is_moved_is_read_once(rt: HostRuntime) -> Result<(), Fail> {
     let mut disk = database(alloc, [ADDS, MOVES])?;
     disk.put_file("000004.sst", &TABLE)?;
     assert_eq!(rt; by_best_efforts(alloc, &mut disk), Some((3, 1)));
-    assert_eq!(rt; disk.bytes_read("000004.sst"), 114);
+    // The five bytes before its footer are read with it too, since another form of footer has as many more.
+    assert_eq!(rt; disk.bytes_read("000004.sst"), 114 + 5);
     Ok(())
 }
 
