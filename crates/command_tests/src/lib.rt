@@ -6,6 +6,8 @@ mod best;
 #[cfg(test)]
 mod check;
 #[cfg(test)]
+mod drill;
+#[cfg(test)]
 mod families;
 #[cfg(test)]
 mod get;

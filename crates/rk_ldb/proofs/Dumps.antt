@@ -3,16 +3,18 @@ use Rattle.std.proofs.Common.{◌≡◌, ℕ, Bool, List, [], ◌∷◌, length,
 use Rattle.std.specs.Prelude.{IfSome, option_map}
 use Rattle.std.specs.FinMap.{get}
 use Rattle.rk_bytes.specs.Model.DiskImages.{Directory, Told, contents, contents_told}
+use Rattle.rk_bytes.specs.Model.Drill.{drill_directory}
 use Rattle.rk_bytes.specs.Model.FileNames.{log_name, table_name}
 use Rattle.rk_bytes.specs.Model.LogItems.{log_items}
 use Rattle.rk_bytes.specs.declared.model.status.Status.TheVariants.{Usage}
 use Rattle.rk_bytes.specs.declared.model.command.SstPart.{SstPart}
 use Rattle.rk_bytes.specs.declared.model.command.How.{How}
-use Rattle.rk_bytes.specs.Model.Grammar.{KeyWord, Command, scan, get as get_key, check, families, manifest_dump, dump_wal, sst, command_of}
+use Rattle.rk_bytes.specs.Model.Grammar.{KeyWord, Command, scan, get as get_key, check, families, manifest_dump, dump_wal, sst, drill, command_of}
 use Rattle.rk_bytes.specs.Model.Lines.{usage_line}
 use Rattle.rk_bytes.specs.Model.Output.{Output, state_of, scan_output, get_output, check_output, dump_wal_output, manifest_dump_output, families_output, sst_output, command_output, written, refused}
 use Rattle.rk_ldb.specs.declared.items.Form.{Form}
-use Rattle.rk_ldb.specs.Built.{built, output_of, output_so_far}
+use Rattle.rk_ldb.specs.Built.{built, so_far, output_of, output_so_far}
+use Rattle.rk_ldb.specs.Drills.{drill_so_far}
 use Rattle.rk_ldb.specs.Wrote.{dump_lines, file_output}
 use Rattle.rk_disk.specs.Parts.{OfFile}
 
@@ -82,20 +84,24 @@ unfolding command_output
 output_of_check None command opening P is h = tt
 output_of_check (Some d) command opening P is h = subst (λ command. P (output_of command d)) (sym is) h
 
+pub output_of_drill : (o : Option Directory) (command : Command) (n : ℕ) (P : Output → Type 0) → command ≡ drill n → P (drill_so_far n (drill_directory n)) → IfSome o (λ d. P (output_of command d))
+output_of_drill None command n P is h = tt
+output_of_drill (Some d) command n P is h = subst (λ command. P (output_of command d)) (sym is) h
+
 -- what is written of a command that the program doesn't have
 pub output_of_none : (o : Option Directory) (command other : Command) (P : Output → Type 0) → command ≡ other → built (Some other) ≡ None → P (record { lines = usage_line ∷ []; status = Usage })
     → IfSome o (λ d. P (output_of command d))
 unfolding command_output
 output_of_none None command other P is lacks h = tt
-output_of_none (Some d) command other P is lacks h = subst (λ built. P (command_output built d)) (sym (ap (λ command. built (Some command)) is ∙ lacks)) h
+output_of_none (Some d) command other P is lacks h = subst (λ built. P (so_far built d)) (sym (ap (λ command. built (Some command)) is ∙ lacks)) h
 
 pub lines_of_command : (o : Option Directory) (words : List (List ℕ)) (command : Command) (P : Output → Type 0) → ◌≡◌ {A = Option Command} (Some command) (command_of words)
     → IfSome o (λ d. P (output_of command d)) → IfSome o (λ d. P (output_so_far words d))
 lines_of_command None words command P is h = tt
-lines_of_command (Some d) words command P is h = subst (λ command. P (command_output (built command) d)) is h
+lines_of_command (Some d) words command P is h = subst (λ command. P (so_far (built command) d)) is h
 
 pub lines_of_usage : (o : Option Directory) (words : List (List ℕ)) (P : Output → Type 0) → ◌≡◌ {A = Option Command} None (command_of words) → P (record { lines = usage_line ∷ []; status = Usage })
     → IfSome o (λ d. P (output_so_far words d))
 unfolding command_output
 lines_of_usage None words P is h = tt
-lines_of_usage (Some d) words P is h = subst (λ command. P (command_output (built command) d)) is h
+lines_of_usage (Some d) words P is h = subst (λ command. P (so_far (built command) d)) is h

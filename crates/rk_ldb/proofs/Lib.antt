@@ -13,6 +13,8 @@ mod Openings
 mod NumberWords
 mod Scans
 mod ShownLemmas
+mod SmallDrills
+mod DrillLemmas
 mod Tables
 mod Taken
 mod ViewLemmas

@@ -1,4 +1,5 @@
 -- What the definitions call the commands of the code.
+use Rattle.std.specs.Prelude.{◌≤◌}
 use Rattle.std.specs.Option.{option_copied, option_map}
 use Rattle.rk_bytes.specs.Model.Grammar.{KeyWord, text_key, hex_key, Command, scan, get, families, manifest_dump, dump_wal, check, repair, sst, drill}
 use Rattle.rk_ldb.specs.declared.keys.KeyWord.{KeyWord as ReadKey}
@@ -22,3 +23,8 @@ told (Check how) = check how
 told Repair = repair
 told (Sst number part hex) = sst number part hex
 told (Drill number) = drill number
+
+-- A drill's directory can have this number.
+abbrev pub IsSmall : Read → Type 0
+IsSmall (Drill number) = number ≤ 100000
+IsSmall _ = Unit {0}

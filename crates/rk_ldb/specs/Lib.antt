@@ -1,6 +1,7 @@
 pub mod Answers
 pub mod Built
 pub mod Commands
+pub mod Drills
 pub mod Ends
 pub mod Keys
 pub mod Refusals

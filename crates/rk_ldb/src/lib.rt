@@ -5,6 +5,8 @@ mod batch;
 mod best;
 mod check;
 mod command;
+mod counts;
+mod drill;
 mod dump;
 mod edit;
 mod families;

@@ -5,11 +5,12 @@ ghost use Rattle.rk_bytes.specs.Model.Output.{text, Took, TookLines, TookFront};
 ghost use Rattle.rk_ldb.specs.Answers.{IsAnswer, IsGetAnswer, EndsInFault, TookPart};
 ghost use Rattle.rk_ldb.specs.Ends.{EndsAs};
 ghost use Rattle.rk_ldb.specs.Built.{built, built_command, IsGet, output_of, output_so_far};
-ghost use Rattle.rk_ldb.specs.Commands.{told};
+ghost use Rattle.rk_ldb.specs.Commands.{told, IsSmall};
 ghost use Rattle.rk_ldb.specs.Stops.{TookUpTo, DiskCounts, SinkCounts, OutputStops};
 
 use crate::check::check;
 use crate::command::{Command, read_command};
+use crate::drill::drill;
 use crate::families::families;
 use crate::get::get;
 use crate::lines::{DISK_FAULT_LINE, MEMORY_FAULT_LINE, USAGE_LINE, write_line};
@@ -94,6 +95,7 @@ fn write_answer<D: Disk, S: Sink>(
     disk: &mut D,
     out: &mut S,
 ) -> Result<Status, Stop>
+    requires { IsSmall command }
     ensures lines { IfSome (contents_told (D.told disk.old)) (λ d. TookUpTo (S.taken out.old) (S.taken out.new) (output_of (told command.entry) d).lines result) }
     ensures status { IfSome (contents_told (D.told disk.old)) (λ d. IfOk result (λ status. status ≡ (output_of (told command.entry) d).status)) }
     ensures ends { EndsAs (built (Some (told command.entry))) (S.taken out.old) (S.taken out.new) result }
@@ -121,7 +123,7 @@ fn write_answer<D: Disk, S: Sink>(
         Command::Check { how } => check(alloc, how, disk, out),
         Command::Repair => answer_with_usage(out),
         Command::Sst { number, part, hex } => sst(alloc, number, part, hex, disk, out),
-        Command::Drill { number: _ } => answer_with_usage(out),
+        Command::Drill { number } => drill(alloc, number, out),
     }
 }
 

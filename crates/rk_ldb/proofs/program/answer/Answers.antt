@@ -7,6 +7,7 @@ use Rattle.rk_ldb.specs.Stops.{TookUpTo}
 use Rattle.rk_ldb.proofs.Dumps.{lines_of_command, lines_of_usage}
 use Rattle.rk_ldb.proofs.Endings.{usage_of_words, usage_of, not_found_of, no_usage_of}
 use Rattle.rk_ldb.specs.Built.{built_command}
+use Rattle.rk_ldb.proofs.SmallDrills.{small_command}
 use Rattle.rk_ldb.proofs.program.answer.Goals as goal
 
 pub returns-in-Some-clause-lines : goal.returns-in-Some-clause-lines
@@ -47,3 +48,6 @@ returns-in-Some-clause-no_usage g c =
     let now = g.S.Sink.taken c.write_answer.new.out in
     let words = c.args.words.now in
     no_usage_of before now (built_command words) c.write_answer.result (usage_of_words before now words (told c.in-Some.command) c.write_answer.result c.in-Some.ensures c.write_answer.ensures.ends)
+
+pub write_answer-requires : goal.write_answer-requires
+write_answer-requires g c = small_command c.args.words.now c.in-Some.command c.in-Some.ensures

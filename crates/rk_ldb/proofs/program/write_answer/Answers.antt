@@ -1,12 +1,12 @@
-use Rattle.std.proofs.Common.{◌≡◌, refl, ap, ◌∙◌}
+use Rattle.std.proofs.Common.{◌≡◌, refl, ap, ◌∙◌, subst}
 use Rattle.std.specs.Prelude.{IfOk}
 use Rattle.std.specs.Option.{option_copied, option_map}
 use Rattle.rk_bytes.specs.Model.DiskImages.{contents_told}
 use Rattle.rk_bytes.specs.Model.Grammar.{scan, get, families, manifest_dump, dump_wal, check, repair, sst, drill}
 use Rattle.rk_bytes.specs.Model.Output.{Output}
-use Rattle.rk_ldb.specs.Commands.{told, told_key}
+use Rattle.rk_ldb.specs.Commands.{told, told_key, IsSmall}
 use Rattle.rk_ldb.specs.Stops.{TookUpTo}
-use Rattle.rk_ldb.proofs.Dumps.{output_of_scan, output_of_get, output_of_families, output_of_log, output_of_manifest, output_of_check, output_of_table, output_of_none}
+use Rattle.rk_ldb.proofs.Dumps.{output_of_scan, output_of_get, output_of_families, output_of_log, output_of_manifest, output_of_check, output_of_table, output_of_drill, output_of_none}
 use Rattle.rk_ldb.proofs.Endings.{ends_command, ends_without}
 use Rattle.rk_ldb.proofs.program.write_answer.Goals as goal
 
@@ -108,12 +108,15 @@ returns-in-Repair-clause-ends g c =
 
 pub returns-in-Drill-clause-lines : goal.returns-in-Drill-clause-lines
 returns-in-Drill-clause-lines g c =
-    output_of_none (contents_told (g.D.Disk.told c.args.disk.now)) (told c.args.command) (drill c.in-Drill.number) (λ (o : Output). TookUpTo (g.S.Sink.taken c.args.out.now) (g.S.Sink.taken c.answer_with_usage-in-Drill.new.out) o.lines c.answer_with_usage-in-Drill.result) (ap told c.in-Drill.is) refl c.answer_with_usage-in-Drill.ensures.lines
+    output_of_drill (contents_told (g.D.Disk.told c.args.disk.now)) (told c.args.command) c.in-Drill.number (λ (o : Output). TookUpTo (g.S.Sink.taken c.args.out.now) (g.S.Sink.taken c.drill.new.out) o.lines c.drill.result) (ap told c.in-Drill.is) c.drill.ensures.lines
 
 pub returns-in-Drill-clause-status : goal.returns-in-Drill-clause-status
 returns-in-Drill-clause-status g c =
-    output_of_none (contents_told (g.D.Disk.told c.args.disk.now)) (told c.args.command) (drill c.in-Drill.number) (λ (o : Output). IfOk c.answer_with_usage-in-Drill.result (λ status. status ≡ o.status)) (ap told c.in-Drill.is) refl c.answer_with_usage-in-Drill.ensures.status
+    output_of_drill (contents_told (g.D.Disk.told c.args.disk.now)) (told c.args.command) c.in-Drill.number (λ (o : Output). IfOk c.drill.result (λ status. status ≡ o.status)) (ap told c.in-Drill.is) c.drill.ensures.status
 
 pub returns-in-Drill-clause-ends : goal.returns-in-Drill-clause-ends
 returns-in-Drill-clause-ends g c =
-    ends_without (g.S.Sink.taken c.args.out.now) (g.S.Sink.taken c.answer_with_usage-in-Drill.new.out) (told c.args.command) (drill c.in-Drill.number) c.answer_with_usage-in-Drill.result (g.S.Sink.faults c.args.out.now) (g.S.Sink.faults c.answer_with_usage-in-Drill.new.out) (ap told c.in-Drill.is) refl c.answer_with_usage-in-Drill.ensures.line c.answer_with_usage-in-Drill.ensures.status c.answer_with_usage-in-Drill.ensures.counts
+    ends_command (g.S.Sink.taken c.args.out.now) (g.S.Sink.taken c.drill.new.out) (told c.args.command) (drill c.in-Drill.number) c.drill.result (ap told c.in-Drill.is) refl c.drill.ensures.answers
+
+pub drill-requires : goal.drill-requires
+drill-requires g c = subst IsSmall c.in-Drill.is c.requires
