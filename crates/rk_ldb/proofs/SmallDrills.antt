@@ -1,5 +1,5 @@
 -- The number of a drill that words spell is one that its directory can have.
-use Rattle.std.proofs.Common.{◌≡◌, ℕ, ◌≤◌, Bool, true, false, cond, List, [], ◌∷◌, Option, Some, None, sym, subst, refl, arith}
+use Rattle.std.proofs.Common.{◌≡◌, ℕ, ◌≤◌, Bool, true, false, cond, List, [], ◌∷◌, Option, Some, None, sym, subst, refl}
 use Rattle.std.specs.Prelude.{nat_le, ◌&&◌, if◌then◌else◌, find, bytes_eq, option_map, unwrap_or, IfSome}
 use Rattle.std.specs.Option.{option_and_then}
 use Rattle.std.proofs.lemmas.Bool.{leb-true}

@@ -1,6 +1,6 @@
 -- The families of a manifest at their points.
 use Rattle.std.specs.Prelude.{◌==◌, flat_map, IfSome}
-use Rattle.std.proofs.Common.{◌≡◌, ℕ, suc, ◌+◌, ◌<◌, ◌≤◌, cond, List, [], ◌∷◌, ◌++◌, length, get_or, map, filter, filter_map, drop, Option, Some, None, Result, Ok, Err, refl, sym, ap, ◌∙◌, subst, append_assoc, arith, eq-eqb}
+use Rattle.std.proofs.Common.{◌≡◌, ℕ, suc, ◌<◌, cond, List, [], ◌∷◌, ◌++◌, length, map, filter, filter_map, drop, Option, Some, None, Result, Ok, Err, refl, sym, ap, ◌∙◌, subst, arith, eq-eqb}
 use Rattle.std.specs.FinMap.{get}
 use Rattle.std.specs.List.{AllByRecursion}
 use Rattle.std.proofs.lemmas.Bool.{ne_eqb}
@@ -23,13 +23,13 @@ use Rattle.rk_edit.specs.Read.{fields_or_none}
 use Rattle.rk_log.specs.declared.item.Piece.{Piece}
 use Rattle.rk_log.specs.Items.{piece_bytes}
 use Rattle.rk_points.specs.Lists.{files_in}
-use Rattle.rk_points.proofs.ListLemmas.{left_at, none_left, listed-cons}
+use Rattle.rk_points.proofs.ListLemmas.{listed-cons}
 use Rattle.rk_version.specs.declared.unit.Unit.{Unit as LentUnit}
 use Rattle.rk_version.specs.Bounds.{HasWholeBounds, IsInOrder}
 use Rattle.rk_version.specs.Places.{Rises}
 use Rattle.rk_version.specs.Units.{edits_of, meaning}
 use Rattle.rk_open.specs.Answers.{RefusesAs}
-use Rattle.rk_open.specs.Best.{placed, placed_at}
+use Rattle.rk_open.specs.Best.{placed, placed_at, with_files}
 use Rattle.rk_open.specs.Tables.{HaveWholeBounds}
 use Rattle.rk_open.proofs.RunLemmas.{refuses_on}
 use Rattle.rk_open.proofs.SoundFields.{IsSound, HasWholeKeys, edit_sound}
@@ -37,22 +37,33 @@ use Rattle.rk_open.proofs.SoundUnits.{AreSoundUnits}
 use Rattle.rk_open.proofs.TablesLemmas.{each_flat, each_kept}
 use Rattle.rk_open.proofs.VersionLemmas.{at_whole, found_sound, added_in_sound}
 
-append_none : {A : Type 0} (xs : List A) → xs ++ [] ≡ xs
-append_none [] = refl
-append_none (x ∷ xs) = ap (λ l. x ∷ l) (append_none xs)
+-- families with the files that are given for them
+abbrev pub given : List FamilyState → List (List FileMeta) → List FamilyState
+given (live ∷ families) (files ∷ each) = with_files live files ∷ given families each
+given _ _ = []
 
--- one more family at its point
-pub placed_more : (units : List ManifestUnit) (families : List FamilyState) (k : ℕ) (live : FamilyState) (rest more : List Point) (point : Point) (old new all : List FamilyState) → k < length families → live ≡ get_or families k live → rest ≡ point ∷ more
-    → new ≡ old ++ placed_at units live point ∷ [] → old ++ placed units (drop k families) rest ≡ all → new ++ placed units (drop (k + 1) families) more ≡ all
-placed_more units families k live rest more point old new all in' is rest_is new_is so =
-    ap (λ l. l ++ placed units (drop (k + 1) families) more) new_is
-    ∙ append_assoc old (placed_at units live point ∷ []) (placed units (drop (k + 1) families) more)
-    ∙ sym (λ i. old ++ placed units (left_at families k live in' is i) (rest_is i))
-    ∙ so
+pub given_none : (families : List FamilyState) → given families [] ≡ []
+given_none [] = refl
+given_none (live ∷ families) = refl
 
-pub placed_all : (units : List ManifestUnit) (families : List FamilyState) (k : ℕ) (rest : List Point) (each all : List FamilyState) → length families ≤ k → each ++ placed units (drop k families) rest ≡ all → each ≡ all
-placed_all units families k rest each all past so =
-    sym (append_none each) ∙ sym (ap (λ left. each ++ placed units left rest) (none_left families k past)) ∙ so
+pub given_more : (families : List FamilyState) (each : List (List FileMeta)) (live : FamilyState) (more : List FamilyState) (files : List FileMeta) → drop (length each) families ≡ live ∷ more
+    → given families (each ++ files ∷ []) ≡ given families each ++ with_files live files ∷ []
+given_more [] [] live more files parts = absurd cc
+given_more (one ∷ families) [] live more files parts = let same : one ≡ live = cc in λ i. with_files (same i) files ∷ given_none families i
+given_more [] (own ∷ each) live more files parts = absurd cc
+given_more (one ∷ families) (own ∷ each) live more files parts = ap (λ rest. with_files one own ∷ rest) (given_more families each live more files parts)
+
+pub rest_more : (families : List FamilyState) (each : List (List FileMeta)) (live : FamilyState) (more : List FamilyState) (files : List FileMeta) → drop (length each) families ≡ live ∷ more
+    → more ≡ drop (length (each ++ files ∷ [])) families
+rest_more [] [] live more files parts = absurd cc
+rest_more (one ∷ families) [] live more files parts = cc
+rest_more [] (own ∷ each) live more files parts = absurd cc
+rest_more (one ∷ families) (own ∷ each) live more files parts = rest_more families each live more files parts
+
+pub given_placed : (units : List ManifestUnit) (families : List FamilyState) (points : List Point) → given families (map (λ (point : Point). files_at units point.family point.at) points) ≡ placed units families points
+given_placed units [] points = refl
+given_placed units (live ∷ families) [] = refl
+given_placed units (live ∷ families) (point ∷ points) = ap (λ rest. placed_at units live point ∷ rest) (given_placed units families points)
 
 -- numbers that rise, of things with the same numbers
 all_alike : {A B : Type 0} (f : A → ℕ) (g : B → ℕ) (n : ℕ) (xs : List A) (ys : List B) → map f xs ≡ map g ys → AllByRecursion (λ x. n < f x) xs → AllByRecursion (λ y. n < g y) ys

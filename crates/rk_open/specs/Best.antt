@@ -2,6 +2,7 @@
 use Rattle.std.specs.Prelude.{ℕ, List, [], ◌∷◌, filter, filter_map, if◌then◌else◌, Option, Some, None, ok_or, Result, Ok}
 use Rattle.std.specs.List.{last_or}
 use Rattle.rk_bytes.specs.declared.model.manifest.FamilyState.{FamilyState}
+use Rattle.rk_bytes.specs.declared.model.manifest.FileMeta.{FileMeta}
 use Rattle.rk_bytes.specs.declared.model.open.OpenErr.{OpenErr}
 use Rattle.rk_bytes.specs.declared.model.open.OpenErr.TheVariants.{NoUsableManifest}
 use Rattle.rk_bytes.specs.declared.model.view.Point.{Point}
@@ -21,9 +22,13 @@ best_of best = record { state = best.state.state; manifest = best.manifest; unit
 abbrev pub manifests_among : List (List ℕ) → List ℕ
 manifests_among names = in_order (λ number. number) (filter_map (λ name. number_of_manifest (name_of name)) names)
 
+-- the family with these files
+abbrev pub with_files : FamilyState → List FileMeta → FamilyState
+with_files live files = record { id = live.id; name = live.name; log = live.log; files = files }
+
 -- the family with the files that it has at the point
 abbrev pub placed_at : List ManifestUnit → FamilyState → Point → FamilyState
-placed_at units live point = record { id = live.id; name = live.name; log = live.log; files = files_at units point.family point.at }
+placed_at units live point = with_files live (files_at units point.family point.at)
 
 -- each of the families with the files that it has at its point
 abbrev pub placed : List ManifestUnit → List FamilyState → List Point → List FamilyState

@@ -4,11 +4,11 @@ ghost use Rattle.std.specs.List.{All, AllByRecursion};
 ghost use Rattle.rk_bytes.specs.Model.Manifest.{version_at};
 ghost use Rattle.rk_manifest.specs.Units.{ReadsWhole};
 ghost use Rattle.rk_version.specs.Units.{meaning};
-ghost use Rattle.rk_open.specs.Best.{placed, placed_at};
+ghost use Rattle.rk_open.specs.Best.{placed, with_files};
 
-use rk_bytes::model::{FamilyState, Point};
+use rk_bytes::model::{FamilyState, FileMeta, Point};
 use rk_bytes::{Bytes, Memory, Seq};
-use rk_points::files_at;
+use rk_points::files_at_points;
 use rk_version::Unit;
 use std::alloc::Global;
 
@@ -25,34 +25,31 @@ pub(crate) fn placed(
     requires each { length points.now ≡ length families.now }
     ensures { IfOk result (λ each. each ≡ placed (map meaning units.now) families.now points.now) }
 {
+    let files = files_at_points(alloc, units, points)?;
     let mut each = Seq::new(alloc);
-    let mut rest = points;
-    for live in families {
-        let Some((point, more)) = rest.split_first() else {
+    let mut rest = families;
+    for own in files.into_vec() {
+        let Some((live, more)) = rest.split_first() else {
             unreachable!();
         };
-        each.push(placed_at(alloc, units, live, point)?)?;
+        each.push(with_files(alloc, live, own)?)?;
         rest = more;
     }
     Ok(each)
 }
 
-/// The family with the files that it has at the point.
-fn placed_at(
+/// The family with these files.
+fn with_files(
     alloc: Global,
-    units: &[Unit<'_>],
     live: &FamilyState,
-    point: &Point,
+    files: Seq<FileMeta>,
 ) -> Result<FamilyState, Memory>
-    requires reads { All ReadsWhole units.now }
-    requires applies { IsOk (version_at (map meaning units.now) (length units.now)) }
-    requires within { point.now.at ≤ length units.now }
-    ensures { IfOk result (λ live'. live' ≡ placed_at (map meaning units.now) live.now point.now) }
+    ensures { IfOk result (λ live'. live' ≡ with_files live.now files) }
 {
     Ok(FamilyState {
         id: live.id,
         name: Bytes::copy_of(alloc, live.name.as_slice())?,
         log: live.log,
-        files: files_at(alloc, units, point)?,
+        files,
     })
 }

@@ -137,15 +137,21 @@ map-drop f (suc n) (x ∷ xs) = map-drop f n xs
 pub enough_answers : (units : List ManifestUnit) (answers : List Bool) → length answers ≡ length (listed units) → length answers ≡ length (added_files units)
 enough_answers units answers e = e ∙ length-map (added_files units) (λ (added : FileMeta × Bool). added.0)
 
+parts_at : (units : List LentUnit) (i : ℕ) (unit : LentUnit) → i < length units → unit ≡ get_or units i unit → drop i (map meaning units) ≡ meaning unit ∷ drop (suc i) (map meaning units)
+parts_at units i unit in' is = sym (map-drop meaning i units) ∙ ap (map meaning) (drop-cons units i unit in') ∙ (λ j. meaning (sym is j) ∷ map-drop meaning (suc i) units j)
+
+pub applied_next : (units : List LentUnit) (i : ℕ) (unit : LentUnit) (version next : Version) → i < length units → unit ≡ get_or units i unit → unit_step (meaning unit) version ≡ Ok next
+    → version_at (map meaning units) i ≡ Ok version → version_at (map meaning units) (i + 1) ≡ Ok next
+applied_next units i unit version next in' is step before =
+    let more : i + 1 ≡ suc i = omega arith in
+    ap (version_at (map meaning units)) more ∙ taken_more 1 (map meaning units) i (meaning unit) (drop (suc i) (map meaning units)) first_version version next (parts_at units i unit in' is) before step
+
 pub standing_more : (units : List LentUnit) (answers : List Bool) (last : Version) (i : ℕ) (unit : LentUnit) (old new : Walk) → length answers ≡ length (listed (map meaning units)) → i < length units → unit ≡ get_or units i unit
     → Reaches (i + 1) (edits_of unit.pieces) old [] new → Standing (map meaning units) answers last i old → Standing (map meaning units) answers last (i + 1) new
 standing_more units answers last i unit old new e in' is reaches s =
     let next : suc i ≡ i + 1 = omega arith in
     subst (λ n. Standing (map meaning units) answers last n new) next
-    (next_standing (map meaning units) answers (enough_answers (map meaning units) answers e) last i (meaning unit) old new parts (subst (λ n. Reaches n (edits_of unit.pieces) old [] new) (sym next) reaches) s)
-  where
-    parts : drop i (map meaning units) ≡ meaning unit ∷ drop (suc i) (map meaning units)
-    parts = sym (map-drop meaning i units) ∙ ap (map meaning) (drop-cons units i unit in') ∙ (λ j. meaning (sym is j) ∷ map-drop meaning (suc i) units j)
+    (next_standing (map meaning units) answers (enough_answers (map meaning units) answers e) last i (meaning unit) old new (parts_at units i unit in' is) (subst (λ n. Reaches n (edits_of unit.pieces) old [] new) (sym next) reaches) s)
 
 -- a version that is there
 pub is_there : (r : Result Version ManifestFault) → IsOk r → (version : Version) × (r ≡ Ok version)

@@ -1,3 +1,4 @@
+mod AtLemmas
 mod DescentLemmas
 mod DescentTurns
 mod StandLemmas

@@ -40,7 +40,11 @@ pub(crate) fn version_after(alloc: Global, units: &[Unit<'_>]) -> Result<Version
 }
 
 /// Copies of the files of the families that have this id.
-fn files_of(alloc: Global, families: &[FamilyState], id: u32) -> Result<Seq<FileMeta>, Memory>
+pub(crate) fn files_of(
+    alloc: Global,
+    families: &[FamilyState],
+    id: u32,
+) -> Result<Seq<FileMeta>, Memory>
     ensures { IfOk result (λ files. files ≡ flat_map (λ live. live.files) (filter (has_id id) families.now)) }
 {
     let mut files = Seq::new(alloc);

@@ -3,6 +3,7 @@
 #![tactic(auto)]
 
 mod aim;
+mod at_points;
 mod best;
 mod broken;
 mod course;
@@ -14,6 +15,7 @@ mod tallies;
 mod tally;
 mod walk;
 
+pub use at_points::files_at_points;
 pub use best::best_points;
 pub use files::files_at;
 pub use lists::listed;

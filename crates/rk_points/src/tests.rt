@@ -193,6 +193,62 @@ fn groups_have_places_and_points_have_files(rt: HostRuntime) -> Result<(), Fail>
     Ok(())
 }
 
+/// How many files each of these points has, where the units are applied and there are at least four.
+fn counts_at(alloc: Global, units: &[Unit<'_>], families: [u32; 4]) -> Result<[usize; 4], Fail>
+    requires { All (λ unit. All (λ piece. IsOk (edit_fields (piece_bytes piece))) unit.pieces) units.now }
+{
+    let _version = apply_all(alloc, units)?;
+    if units.len() < 4 {
+        return Err(Fail::new("there are fewer units"));
+    }
+    let points = [
+        Point {
+            family: families[0],
+            at: 4,
+        },
+        Point {
+            family: families[1],
+            at: 0,
+        },
+        Point {
+            family: families[2],
+            at: 2,
+        },
+        Point {
+            family: families[3],
+            at: 3,
+        },
+    ];
+    let each = files_at_points(alloc, units, &points)?;
+    match each.as_slice() {
+        [a, b, c, d] => Ok([
+            a.as_slice().len(),
+            b.as_slice().len(),
+            c.as_slice().len(),
+            d.as_slice().len(),
+        ]),
+        _ => Err(Fail::new("there are other points")),
+    }
+}
+
+#[test]
+fn points_have_their_files_in_any_order(rt: HostRuntime) -> Result<(), Fail> {
+    let alloc = rt.alloc();
+    let units = units_of(
+        alloc,
+        &[
+            &[TABLE_4],
+            &[b"", TABLE_6],
+            &[FAMILY_1],
+            &[b"", TABLE_9_OF_1],
+        ],
+    )?;
+    let units = units.as_slice();
+    assert_eq!(rt; counts_at(alloc, units, [1, 0, 0, 1])?, [1, 0, 2, 0]);
+    assert_eq!(rt; counts_at(alloc, units, [0, 1, 0, 0])?, [2, 0, 2, 2]);
+    Ok(())
+}
+
 /// The best points by these answers, where the units are applied and there are as many answers as files.
 fn best_of(alloc: Global, units: &[Unit<'_>], whole: &[bool]) -> Result<Seq<Point>, Fail>
     requires { All (λ unit. All (λ piece. IsOk (edit_fields (piece_bytes piece))) unit.pieces) units.now }

@@ -1,4 +1,4 @@
-use Rattle.std.proofs.Common.{map, drop, Err, refl, sym, ap, ◌∙◌, subst}
+use Rattle.std.proofs.Common.{drop, Err, refl, sym, ap, ◌∙◌, subst}
 use Rattle.std.proofs.lemmas.Result.{err_from_is_err_and}
 use Rattle.rk_bytes.specs.declared.model.status.Status.{Status}
 use Rattle.rk_bytes.specs.Model.Lines.{drill_line}

@@ -1,10 +1,9 @@
-use Rattle.std.proofs.Common.{◌+◌, map, drop, get_or, Err, refl, sym, ap, ◌∙◌, subst, arith}
+use Rattle.std.proofs.Common.{◌+◌, map, drop, get_or, Err, sym, ap, ◌∙◌, subst, arith}
 use Rattle.std.proofs.lemmas.List.{get_or_default}
 use Rattle.std.proofs.lemmas.Result.{err_from_is_err_and}
-use Rattle.rk_bytes.specs.declared.model.command.How.TheVariants.{Best}
 use Rattle.rk_bytes.specs.Model.DiskImages.{Directory}
 use Rattle.rk_ldb.specs.Drills.{opened_line}
-use Rattle.rk_ldb.specs.Stops.{TookUpTo, TookLine}
+use Rattle.rk_ldb.specs.Stops.{TookUpTo}
 use Rattle.rk_ldb.specs.Wrote.{Wrote}
 use Rattle.rk_ldb.proofs.ShownLemmas.{next_shown}
 use Rattle.rk_ldb.proofs.Taken.{Wrote-line, Wrote-line-stopped}

@@ -1,4 +1,4 @@
-use Rattle.std.proofs.Common.{map, sym, ap, subst, ◌∙◌}
+use Rattle.std.proofs.Common.{map, sym, subst, ◌∙◌}
 use Rattle.std.proofs.lemmas.List.{length-map}
 use Rattle.rk_version.specs.Units.{meaning}
 use Rattle.rk_points.specs.Courses.{Follows}
